@@ -39,10 +39,11 @@ Covers (over s collect_all) c h = IsIn (count (collected (answer_of s) h)) (item
 Covers (over s (mapped f)) c h = Covers s c h
 Covers (over s (reset_when k t)) c h = Covers s c (since_reset (answer_of s) k t h)
 
--- a step that may come after a history, some time at least after its last step
-pub record Comes (d : ℕ) (h : History) (p : ℕ × ℕ) : Type 0 where
+-- a step that may come after a history, by the times after its last step
+pub record Comes (d : Span) (h : History) (p : ℕ × ℕ) : Type 0 where
   pub step : IsStep p
-  pub later : last_moment h + d ≤ p.0
+  pub later : last_moment h + d.low ≤ p.0
+  pub soon : p.0 ≤ last_moment h + d.high
   pub small : length (p ∷ h) ≤ max_moment
 
 -- ---- counts of steps
@@ -74,13 +75,13 @@ counts-begins n t p = record {
 }
 
 -- one more step
-pub counts-next : (n t : Span) (d : ℕ) (h : History) (p : ℕ × ℕ) → Comes d h p → Counts n t h → Counts (more_steps n) (more_time d t) (p ∷ h)
+pub counts-next : (n t d : Span) (h : History) (p : ℕ × ℕ) → Comes d h p → Counts n t h → Counts (more_steps n) (more_time d t) (p ∷ h)
 counts-next n t d [] p comes c = absurd (omega (arith, c.some))
 counts-next n t d (q ∷ h) p comes c = record {
   some = omega arith;
   steps = record { low = omega (arith, c.steps.low); high = omega (arith, c.steps.high, comes.small) };
   early = omega (arith, c.early, comes.later);
-  late = omega (arith, comes.step.tick);
+  late = omega (arith, c.late, comes.soon, comes.step.tick);
 }
 
 -- ---- lists
@@ -190,10 +191,11 @@ pub since_reset-first : (f : History → Answer) (k : Pick) (t : Test) (p : ℕ 
 since_reset-first f k t p = reset_if-alone (passes t (picked k (f (p ∷ [])).output)) p
 
 -- what comes after a history comes after a part of it
-pub comes-part : (d : ℕ) (h g : History) (p : ℕ × ℕ) → Comes d h p → last_moment g ≡ last_moment h → length g ≤ length h → Comes d g p
+pub comes-part : (d : Span) (h g : History) (p : ℕ × ℕ) → Comes d h p → last_moment g ≡ last_moment h → length g ≤ length h → Comes d g p
 comes-part d h g p comes moment le = record {
   step = comes.step;
   later = omega (arith, comes.later, moment);
+  soon = omega (arith, comes.soon, moment);
   small = omega (arith, comes.small, le);
 }
 

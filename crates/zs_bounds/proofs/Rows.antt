@@ -4,18 +4,29 @@ use Rattle.zs_term.specs.Schedule.{Schedule, leaf, two, over, forever, recurs, s
 use Rattle.zs_term.specs.declared.term.Cmp.TheVariants.{Lt, Ne, Ge, Eq}
 use Rattle.zs_term.specs.declared.term.Pick.TheVariants.{Whole, Second as SecondPart, Size as SizeOf}
 use Rattle.zs_term.specs.declared.term.Func.TheVariants.{Merge}
+use Rattle.zs_bounds.specs.declared.durations.Durations.{Durations}
 use Rattle.zs_bounds.specs.declared.told.Bounds.{Bounds}
+use Rattle.zs_bounds.specs.Driven.{any_duration}
 use Rattle.zs_bounds.specs.BoundsOf.{bounds_of}
 
--- the steps looked at, the least and the most, the longest wait, all waits
+-- the steps looked at, the least and the most, the longest wait, all waits; no longest run
 abbrev told : ℕ → ℕ → Option ℕ → ℕ → Option ℕ → Bounds
-told seen least most longest total = record { seen = seen; least = least; most = most; longest = longest; total = total }
+told seen least most longest total = record { seen = seen; least = least; most = most; longest = longest; total = total; longest_run = None }
+
+-- the same with a longest run
+abbrev told_run : ℕ → ℕ → Option ℕ → ℕ → Option ℕ → Option ℕ → Bounds
+told_run seen least most longest total run =
+    record { seen = seen; least = least; most = most; longest = longest; total = total; longest_run = run }
+
+-- attempts of this least and this most
+abbrev lasting : ℕ → ℕ → Durations
+lasting least most = record { least = least; most = Some most }
 
 -- 100, 200, 400, 800, 1600 ms, and no sixth wait
 abbrev backoff : Schedule
 backoff = two both (leaf (exponential 100 2)) (leaf (recurs 5))
 
-gives_up_after_six : bounds_of backoff 20 ≡ told 6 6 (Some 6) 1600 (Some 3100)
+gives_up_after_six : bounds_of backoff any_duration 20 ≡ told 6 6 (Some 6) 1600 (Some 3100)
 gives_up_after_six = refl
 
 -- It may give up at once, if the first error isn't a server's. Else it has waits of 100, 200, ..,
@@ -24,7 +35,7 @@ abbrev server_errors : Schedule
 server_errors =
     over (two both (two either (leaf (exponential 100 2)) (leaf (spaced 5000))) (leaf (recurs 8))) (while_input (record { cmp = Ge; than = 500 }))
 
-only_server_errors : bounds_of server_errors 20 ≡ told 9 1 (Some 9) 5000 (Some 16300)
+only_server_errors : bounds_of server_errors any_duration 20 ≡ told 9 1 (Some 9) 5000 (Some 16300)
 only_server_errors = refl
 
 -- Each attempt takes 1 ms at least, so after five waits 2005 ms have passed. A long attempt ends it
@@ -32,11 +43,11 @@ only_server_errors = refl
 abbrev two_seconds : Schedule
 two_seconds = over (two both (leaf (spaced 400)) (leaf elapsed)) (while_output SecondPart (record { cmp = Lt; than = 2000 }))
 
-for_two_seconds : bounds_of two_seconds 20 ≡ told 6 2 (Some 6) 400 (Some 2000)
+for_two_seconds : bounds_of two_seconds any_duration 20 ≡ told 6 2 (Some 6) 400 (Some 2000)
 for_two_seconds = refl
 
 -- 250, 500, .., 1250; the sixth delay is 1500, and ends it
-growing_delays : bounds_of (over (leaf (linear 250)) (while_output Whole (record { cmp = Lt; than = 1500 }))) 20 ≡ told 6 6 (Some 6) 1250 (Some 3750)
+growing_delays : bounds_of (over (leaf (linear 250)) (while_output Whole (record { cmp = Lt; than = 1500 }))) any_duration 20 ≡ told 6 6 (Some 6) 1250 (Some 3750)
 growing_delays = refl
 
 -- three quick waits of 100, 200, 400 ms, four slow ones of 5000 ms, and a minute in all
@@ -45,29 +56,56 @@ quick_then_slow =
     two both (over (two and_then (two both (leaf (exponential 100 2)) (leaf (recurs 3))) (two both (leaf (spaced 5000)) (leaf (recurs 4)))) (mapped Merge))
     (over (leaf elapsed) (while_output Whole (record { cmp = Lt; than = 60000 })))
 
-fallback : bounds_of quick_then_slow 20 ≡ told 8 2 (Some 8) 5000 (Some 20700)
+fallback : bounds_of quick_then_slow any_duration 20 ≡ told 8 2 (Some 8) 5000 (Some 20700)
 fallback = refl
 
 -- it gives up at the first missing page, which may be at once or never
-until_missing : bounds_of (over (leaf (spaced 1000)) (while_input (record { cmp = Ne; than = 404 }))) 5 ≡ told 5 1 None 1000 None
+until_missing : bounds_of (over (leaf (spaced 1000)) (while_input (record { cmp = Ne; than = 404 }))) any_duration 5 ≡ told 5 1 None 1000 None
 until_missing = refl
 
 -- it never gives up by itself
-always_at_once : bounds_of (leaf forever) 5 ≡ told 5 6 None 0 None
+always_at_once : bounds_of (leaf forever) any_duration 5 ≡ told 5 6 None 0 None
 always_at_once = refl
 
 -- no step is looked at
-no_step : bounds_of (leaf (recurs 3)) 0 ≡ told 0 1 None 0 None
+no_step : bounds_of (leaf (recurs 3)) any_duration 0 ≡ told 0 1 None 0 None
 no_step = refl
 
 -- the third step would be past every clock
-past_the_clock : bounds_of (leaf (spaced 600000000000000)) 5 ≡ told 2 3 None 600000000000000 (Some 1200000000000000)
+past_the_clock : bounds_of (leaf (spaced 600000000000000)) any_duration 5 ≡ told 2 3 None 600000000000000 (Some 1200000000000000)
 past_the_clock = refl
 
 -- a whole period at the first step, and any part of one later
-periods : bounds_of (two both (leaf (fixed 100)) (leaf (recurs 2))) 5 ≡ told 3 3 (Some 3) 100 (Some 200)
+periods : bounds_of (two both (leaf (fixed 100)) (leaf (recurs 2))) any_duration 5 ≡ told 3 3 (Some 3) 100 (Some 200)
 periods = refl
 
 -- a reset at the third step, which has two items: then it starts again
-resets : bounds_of (over (over (leaf (recurs 5)) collect_all) (reset_when SizeOf (record { cmp = Eq; than = 2 }))) 9 ≡ told 9 10 None 0 None
+resets : bounds_of (over (over (leaf (recurs 5)) collect_all) (reset_when SizeOf (record { cmp = Eq; than = 2 }))) any_duration 9 ≡ told 9 10 None 0 None
 resets = refl
+
+-- ---- with a most
+
+-- six attempts of 5000 ms, and waits of 3100 ms
+gives_up_in_time : bounds_of backoff (lasting 1 5000) 20 ≡ told_run 6 6 (Some 6) 1600 (Some 3100) (Some 33100)
+gives_up_in_time = refl
+
+-- Waits of 400 ms. The second to sixth attempts end 401 to 410, .., 2005 to 2050 ms after the first.
+-- So the sixth is the last, and the fifth isn't.
+short_attempts : bounds_of two_seconds (lasting 1 10) 20 ≡ told_run 6 6 (Some 6) 400 (Some 2000) (Some 2060)
+short_attempts = refl
+
+-- Attempts of 500 ms: 900, 1800 and 2700 ms after the first.
+long_attempts : bounds_of two_seconds (lasting 500 500) 20 ≡ told_run 4 4 (Some 4) 400 (Some 1200) (Some 3200)
+long_attempts = refl
+
+-- an attempt takes 1 ms at least
+no_least : bounds_of two_seconds (lasting 0 10) 20 ≡ told_run 6 6 (Some 6) 400 (Some 2000) (Some 2060)
+no_least = refl
+
+-- there may be more attempts than were looked at
+never_done : bounds_of (leaf forever) (lasting 1 5000) 5 ≡ told_run 5 6 None 0 None None
+never_done = refl
+
+-- a run over the greatest number
+too_long_run : bounds_of (leaf (recurs 2)) (lasting 1 9223372036854775808) 5 ≡ told_run 3 3 (Some 3) 0 (Some 0) None
+too_long_run = refl

@@ -7,6 +7,7 @@ use Rattle.zs_term.specs.declared.term.Test.{Test}
 use Rattle.zs_term.specs.declared.term.Pick.{Pick}
 use Rattle.zs_step.specs.History.{History}
 use Rattle.zs_step.specs.Answer.{Answer, answer_of, is_next, done_from, from_done, sequel_of, collected, reset_if, since_reset}
+use Rattle.zs_bounds.specs.declared.span.Span.{Span}
 use Rattle.zs_bounds.specs.Driven.{IsStep}
 use Rattle.zs_bounds.specs.Span.{IsIn, span}
 use Rattle.zs_bounds.specs.DecisionRange.{may_go_on}
@@ -207,15 +208,15 @@ reset-in p g f k t r first false e h begins =
     (test-may_fail t (picked k (f (p ∷ g)).output) (picked_span k r.output) (picked-in k (f (p ∷ g)).output r.output h.output) e) h
 
 -- what comes after a history comes after the part from the first done step on
-comes-done : (f : History → Answer) (d : ℕ) (h g : History) (p : ℕ × ℕ) → Comes d h p → from_done f h ≡ Some g → Comes d g p
+comes-done : (f : History → Answer) (d : Span) (h g : History) (p : ℕ × ℕ) → Comes d h p → from_done f h ≡ Some g → Comes d g p
 comes-done f d h g p comes e = comes-part d h g p comes (from_done-moment f h g e) (from_done-length f h g e)
 
 -- and after the part since the last reset
-comes-reset : (f : History → Answer) (k : Pick) (t : Test) (d : ℕ) (h : History) (p : ℕ × ℕ) → Comes d h p → Comes d (since_reset f k t h) p
+comes-reset : (f : History → Answer) (k : Pick) (t : Test) (d : Span) (h : History) (p : ℕ × ℕ) → Comes d h p → Comes d (since_reset f k t h) p
 comes-reset f k t d h p comes = comes-part d h (since_reset f k t h) p comes (since_reset-moment f k t h) (since_reset-length f k t h)
 
 -- the result of a later step
-pub next-in : (s : Schedule) (c : StateRange) (d : ℕ) (h : History) (p : ℕ × ℕ) → has_factors s ≡ true → Comes d h p → Covers s c h →
+pub next-in : (s : Schedule) (c : StateRange) (d : Span) (h : History) (p : ℕ × ℕ) → has_factors s ≡ true → Comes d h p → Covers s c h →
     IsAnswerIn p.0 (answer_of s (p ∷ h)) (next_range s c d)
 next-in (leaf l) c d h p factors comes covers =
     leaf-in l (more_steps (steps_in c)) (more_time d (time_in c)) p h factors comes.step comes.small (counts-next (steps_in c) (time_in c) d h p comes covers)
@@ -285,7 +286,7 @@ reset-covers p g f k t r false P w first c e h w_keeps c_keeps w_begins first_be
     (test-may_fail t (picked k (f (p ∷ g)).output) (picked_span k r.output) (picked-in k (f (p ∷ g)).output r.output h.output) e) w_keeps c_keeps
 
 -- the states after a later step
-pub next-covers : (s : Schedule) (c : StateRange) (d : ℕ) (h : History) (p : ℕ × ℕ) → has_factors s ≡ true → Comes d h p → Covers s c h →
+pub next-covers : (s : Schedule) (c : StateRange) (d : Span) (h : History) (p : ℕ × ℕ) → has_factors s ≡ true → Comes d h p → Covers s c h →
     Covers s (next_state s c d) (p ∷ h)
 next-covers (leaf l) c d h p factors comes covers = counts-next (steps_in c) (time_in c) d h p comes covers
 next-covers (two both a b) c d h p factors comes covers = (

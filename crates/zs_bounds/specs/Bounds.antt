@@ -4,10 +4,11 @@ use Rattle.std.specs.Prelude.{◌≡◌, ℕ, ◌+◌, ◌-◌, ◌<◌, ◌≤�
 use Rattle.zs_term.specs.Schedule.{Schedule}
 use Rattle.zs_step.specs.declared.decision.Decision.{Decision}
 use Rattle.zs_step.specs.declared.decision.Decision.TheVariants.{Stop, Next}
-use Rattle.zs_step.specs.History.{History, last_moment}
+use Rattle.zs_step.specs.History.{History, first_moment, last_moment}
 use Rattle.zs_step.specs.Answer.{answer_of, is_next}
+use Rattle.zs_bounds.specs.declared.durations.Durations.{Durations}
 use Rattle.zs_bounds.specs.declared.told.Bounds.{Bounds}
-use Rattle.zs_bounds.specs.Driven.{IsDriven}
+use Rattle.zs_bounds.specs.Driven.{IsAttempt, LetsEndAt, IsDriven}
 
 -- how long a decision at a moment waits: not at all if it is to stop
 abbrev pub wait_of : ℕ → Decision → ℕ
@@ -23,16 +24,29 @@ abbrev pub total_wait : Schedule → History → ℕ
 total_wait s [] = 0
 total_wait s (p ∷ h) = last_wait s (p ∷ h) + total_wait s h
 
--- What is promised of every history that a driver can make with a schedule.
-pub record Promises (s : Schedule) (b : Bounds) : Type 0 where
+-- After a history, an attempt begins and ends at m: the first one, which begins at `begun`, or one
+-- that the last step lets begin.
+abbrev pub NextEndsAt : Schedule → Durations → ℕ → History → ℕ → Type 0
+NextEndsAt s d begun [] m = IsAttempt d begun m
+NextEndsAt s d begun (p ∷ h) m =
+    IsDriven s d (p ∷ h) × IsAttempt d begun (first_moment (p ∷ h)) × LetsEndAt d (answer_of s (p ∷ h)).decision m
+
+-- What is promised of every history that a driver can make with a schedule, if attempts take as long
+-- as d says.
+pub record Promises (s : Schedule) (d : Durations) (b : Bounds) : Type 0 where
   -- with a most, no history has more steps, and at that step the schedule is done
-  pub most : (k : ℕ) → b.most ≡ Some k → (h : History) → IsDriven s h → length h ≤ k
-  pub done : (k : ℕ) → b.most ≡ Some k → (h : History) → IsDriven s h → length h ≡ k → (answer_of s h).decision ≡ Stop
+  pub most : (k : ℕ) → b.most ≡ Some k → (h : History) → IsDriven s d h → length h ≤ k
+  pub done : (k : ℕ) → b.most ≡ Some k → (h : History) → IsDriven s d h → length h ≡ k → (answer_of s h).decision ≡ Stop
   -- before the least step the schedule goes on
-  pub least : (h : History) → IsDriven s h → length h < b.least → is_next (answer_of s h).decision ≡ true
+  pub least : (h : History) → IsDriven s d h → length h < b.least → is_next (answer_of s h).decision ≡ true
   -- no wait after a step that was looked at is longer
-  pub longest : (h : History) → IsDriven s h → length h ≤ b.seen → last_wait s h ≤ b.longest
+  pub longest : (h : History) → IsDriven s d h → length h ≤ b.seen → last_wait s h ≤ b.longest
   -- with a total, all waits of a history are no longer in all
-  pub total : (t : ℕ) → b.total ≡ Some t → (h : History) → IsDriven s h → total_wait s h ≤ t
+  pub total : (t : ℕ) → b.total ≡ Some t → (h : History) → IsDriven s d h → total_wait s h ≤ t
+  -- with a longest run, the last attempt ends at most that long after the begin of the first one
+  pub run : (r : ℕ) → b.longest_run ≡ Some r → (h : History) → IsDriven s d h
+      → (begun : ℕ) → IsAttempt d begun (first_moment h) → last_moment h ≤ begun + r
+  -- and so does every attempt that begins, even if no clock goes on to its end
+  pub next : (r : ℕ) → b.longest_run ≡ Some r → (begun : ℕ) (h : History) (m : ℕ) → NextEndsAt s d begun h m → m ≤ begun + r
   -- with a most, every step was looked at
   pub whole : (k : ℕ) → b.most ≡ Some k → b.seen ≡ k

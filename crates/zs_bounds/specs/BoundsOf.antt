@@ -1,11 +1,13 @@
 -- What `bounds` computes, step by step. `bounds_hold` says what it means.
-use Rattle.std.specs.Prelude.{ℕ, zero, suc, ◌+◌, max, Bool, true, false, not, ◌&&◌, nat_lt, nat_le, if◌then◌else◌, Option, Some, None}
+use Rattle.std.specs.Prelude.{ℕ, zero, suc, ◌+◌, min, max, Bool, true, false, not, ◌&&◌, nat_lt, nat_le, if◌then◌else◌, Option, Some, None}
 use Rattle.zs_term.specs.Saturating.{saturated, max_moment}
 use Rattle.zs_term.specs.Schedule.{Schedule}
+use Rattle.zs_bounds.specs.declared.durations.Durations.{Durations}
 use Rattle.zs_bounds.specs.declared.told.Bounds.{Bounds}
 use Rattle.zs_bounds.specs.declared.span.Span.{Span}
 use Rattle.zs_bounds.specs.declared.decisions.Decisions.{Decisions}
-use Rattle.zs_bounds.specs.Driven.{max_tick}
+use Rattle.zs_bounds.specs.Driven.{max_tick, shortest}
+use Rattle.zs_bounds.specs.Span.{span}
 use Rattle.zs_bounds.specs.StateRange.{StateRange, first_range, first_state, next_range, next_state}
 
 -- the longest wait of some decisions
@@ -18,46 +20,63 @@ abbrev pub sum_within : Option ℕ → ℕ → Option ℕ
 sum_within None w = None
 sum_within (Some t) w = (if nat_le (t + w) max_moment then Some (t + w) else None)
 
--- before the first step
-abbrev pub no_bounds : Bounds
-no_bounds = record { seen = 0; least = 1; most = None; longest = 0; total = Some 0 }
+-- the longest run with one more wait and attempt, if a step may go on
+abbrev pub longer_run : Option ℕ → Option Span → Option ℕ → Option ℕ
+longer_run most None run = run
+longer_run None (Some w) run = None
+longer_run (Some k) (Some w) run = sum_within (sum_within run w.high) k
+
+-- before the first step, which is the end of the first attempt
+abbrev pub no_bounds : Durations → Bounds
+no_bounds a = record { seen = 0; least = 1; most = None; longest = 0; total = Some 0; longest_run = a.most }
 
 -- one more step, with what it may decide
-abbrev pub with_step : Decisions → Bounds → Bounds
-with_step d b = record {
+abbrev pub with_step : Durations → Decisions → Bounds → Bounds
+with_step a d b = record {
   seen = b.seen + 1;
   least = (if nat_lt b.seen b.least && not d.stops then saturated (b.least + 1) else b.least);
   most = None;
   longest = max b.longest (longest_in d.waits);
   total = sum_within b.total (longest_in d.waits);
+  longest_run = longer_run a.most d.waits b.longest_run;
 }
 
 -- the last step that was seen is the last that there may be
 abbrev pub ended : Bounds → Bounds
-ended b = record { seen = b.seen; least = b.least; most = Some b.seen; longest = b.longest; total = b.total }
+ended b = record { seen = b.seen; least = b.least; most = Some b.seen; longest = b.longest; total = b.total; longest_run = b.longest_run }
 
 -- there may be more steps than were seen
 abbrev pub unended : Bounds → Bounds
-unended b = record { seen = b.seen; least = b.least; most = None; longest = b.longest; total = None }
+unended b = record { seen = b.seen; least = b.least; most = None; longest = b.longest; total = None; longest_run = None }
+
+-- the longest time of a wait and an attempt: at most a whole clock
+abbrev pub longest_time : Option ℕ → ℕ → ℕ
+longest_time None wait = max_tick
+longest_time (Some k) wait = min (saturated (wait + k)) max_tick
+
+-- the time from a step up to the next one: a wait and an attempt
+abbrev pub time_between : Durations → Span → Span
+time_between a w = span (saturated (w.low + shortest a)) (longest_time a.most w.high)
 
 -- the bounds so far, if no later step is within a clock; otherwise the later steps decide
 abbrev pub unless_past : Bool → Bounds → (Unit {0} → Bounds) → Bounds
 unless_past true b rest = b
 unless_past false b rest = rest tt
 
--- after a step: the end, if it can't go on; otherwise what follows on its least wait
-abbrev pub after_waits : Option Span → ℕ → Bounds → (ℕ → ℕ → Bounds) → Bounds
-after_waits None passed b rest = ended b
-after_waits (Some w) passed b rest =
-    unless_past (nat_lt max_tick (passed + (w.low + 1))) b (λ _. rest (w.low + 1) (passed + (w.low + 1)))
+-- after a step: the end, if it can't go on; otherwise what follows after the times up to the next
+-- step, of which the least ones are added up
+abbrev pub after_waits : Durations → Option Span → ℕ → Bounds → (Span → ℕ → Bounds) → Bounds
+after_waits a None passed b rest = ended b
+after_waits a (Some w) passed b rest =
+    let later = time_between a w in unless_past (nat_lt max_tick (passed + later.low)) b (λ _. rest later (passed + later.low))
 
 -- The bounds of at most n more steps, by the states after the next one, what it may decide, and the
 -- least time up to it.
-abbrev pub bounds_from : Schedule → ℕ → StateRange → Decisions → ℕ → Bounds → Bounds
-bounds_from s zero c d passed b = unended b
-bounds_from s (suc n) c d passed b =
-    after_waits d.waits passed (with_step d b) (λ later time. bounds_from s n (next_state s c later) (next_range s c later).decision time (with_step d b))
+abbrev pub bounds_from : Schedule → Durations → ℕ → StateRange → Decisions → ℕ → Bounds → Bounds
+bounds_from s a zero c d passed b = unended b
+bounds_from s a (suc n) c d passed b =
+    after_waits a d.waits passed (with_step a d b) (λ later time. bounds_from s a n (next_state s c later) (next_range s c later).decision time (with_step a d b))
 
 -- the bounds of at most `steps` steps
-abbrev pub bounds_of : Schedule → ℕ → Bounds
-bounds_of s steps = bounds_from s steps (first_state s) (first_range s).decision 0 no_bounds
+abbrev pub bounds_of : Schedule → Durations → ℕ → Bounds
+bounds_of s a steps = bounds_from s a steps (first_state s) (first_range s).decision 0 (no_bounds a)

@@ -1,8 +1,9 @@
 -- The schedule that a node was made of, the range of states that it has, and what it knows of first
 -- steps.
-use Rattle.std.specs.Prelude.{◌≡◌, ℕ, Bool, true, false}
+use Rattle.std.specs.Prelude.{◌≡◌, Bool, true, false}
 use Rattle.zs_term.specs.Schedule.{Schedule, leaf, two, over, both, either, and_then, while_input, while_output, collect_all, mapped, reset_when}
 use Rattle.zs_bounds.specs.declared.decisions.Decisions.{Decisions}
+use Rattle.zs_bounds.specs.declared.span.Span.{Span}
 use Rattle.zs_bounds.specs.declared.node.Fresh.{Fresh}
 use Rattle.zs_bounds.specs.declared.node.Fresh.TheVariants.{Nothing, Beside, Alone}
 use Rattle.zs_bounds.specs.declared.node.Turn.{Turn}
@@ -69,7 +70,7 @@ abbrev pub turn_states : Turn → Turn → Node → Node → StateRange
 turn_states t u a b = turns t.is_on u.is_on (part_state t a) (part_state u b)
 
 -- what the next step of two parts in turn may return
-abbrev pub turns_range : Turns → Node → Node → ℕ → AnswerRange
+abbrev pub turns_range : Turns → Node → Node → Span → AnswerRange
 turns_range t a b d = next_range (two and_then (node_schedule a) (node_schedule b)) (turn_states t.first t.second a b) d
 
 -- ---- what first steps may return: of both parts in turn, of a part that is collected, and of a

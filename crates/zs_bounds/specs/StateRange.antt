@@ -2,7 +2,7 @@
 -- and what the next step makes of them. `proofs/Covers.antt` says when a range of states covers a
 -- history. No reader has to believe this file, since `bounds_hold` says of its results what
 -- `Bounds` promises.
-use Rattle.std.specs.Prelude.{ℕ, ◌+◌, Bool, true, false, ◌&&◌, ◌||◌, if◌then◌else◌}
+use Rattle.std.specs.Prelude.{ℕ, ◌+◌, min, Bool, true, false, ◌&&◌, ◌||◌, if◌then◌else◌}
 use Rattle.zs_term.specs.Saturating.{saturated}
 use Rattle.zs_term.specs.Schedule.{Schedule, leaf, two, over, both, either, and_then, while_input, while_output, collect_all, mapped, reset_when}
 use Rattle.zs_bounds.specs.declared.span.Span.{Span}
@@ -128,7 +128,7 @@ with_first (over s collect_all) c =
 with_first (over s (mapped f)) c = with_first s c
 with_first (over s (reset_when k t)) c = with_first s c
 
--- ---- a later step, some time at least after the one before
+-- ---- a later step, by the times up to it since the one before
 
 -- The results of two parts in turn: of the first if it may be on, of the second if it may be, and
 -- of the second's first step if the first may be done.
@@ -142,11 +142,11 @@ abbrev pub more_steps : Span → Span
 more_steps n = span (saturated (n.low + 1)) (saturated (n.high + 1))
 
 -- some more time, and at most a whole clock
-abbrev pub more_time : ℕ → Span → Span
-more_time d t = span (saturated (t.low + d)) max_tick
+abbrev pub more_time : Span → Span → Span
+more_time d t = span (saturated (t.low + d.low)) (min (saturated (t.high + d.high)) max_tick)
 
 -- what the next step may return
-abbrev pub next_range : Schedule → StateRange → ℕ → AnswerRange
+abbrev pub next_range : Schedule → StateRange → Span → AnswerRange
 next_range (leaf l) c d = leaf_range l (more_steps (steps_in c)) (more_time d (time_in c))
 next_range (two both a b) c d = pair_range both_decide (next_range a (first_in c) d) (next_range b (second_in c) d)
 next_range (two either a b) c d = pair_range either_decides (next_range a (first_in c) d) (next_range b (second_in c) d)
@@ -165,7 +165,7 @@ turn_state first_on second_on d old_first new_first old_second new_second with_f
     (begun (first_on && d.stops) second_on with_first_second first_second (if second_on then new_second else old_second))
 
 -- the states after the next step
-abbrev pub next_state : Schedule → StateRange → ℕ → StateRange
+abbrev pub next_state : Schedule → StateRange → Span → StateRange
 next_state (leaf l) c d = counts (more_steps (steps_in c)) (more_time d (time_in c))
 next_state (two both a b) c d = parts (next_state a (first_in c) d) (next_state b (second_in c) d)
 next_state (two either a b) c d = parts (next_state a (first_in c) d) (next_state b (second_in c) d)

@@ -7,6 +7,7 @@ ghost use Rattle.zs_bounds.specs.BoundsOf.{bounds_of, bounds_from, no_bounds};
 ghost use Rattle.zs_bounds.specs.Node.{node_schedule, node_state, KnowsFirsts};
 
 use crate::decisions::Decisions;
+use crate::durations::Durations;
 use crate::node::{Node, begin, first_range, node_of};
 use crate::ranges::OutRange;
 use crate::reads::Reads;
@@ -17,19 +18,24 @@ use std::alloc::{AllocError, Global};
 use zs_term::Checked;
 
 /// Returns what holds for every history that a driver can make with a schedule. In such a history
-/// each step is at a moment of a clock, each attempt takes at least 1 millisecond, and inputs are
-/// arbitrary.
+/// each step is at a moment of a clock, each attempt takes as long as `durations` says, and inputs
+/// are arbitrary.
 ///
 /// Looks at no more than `steps` steps. Looks at fewer if the schedule is done by then, or if the
 /// next step would be past every clock. Fails only if memory runs out.
-pub fn bounds(alloc: Global, checked: &Checked, steps: u64) -> Result<Bounds, AllocError>
-    ensures promises { IfOk result (Promises (schedule_of checked.now)) }
-    ensures value { IfOk result (λ b. b ≡ bounds_of (schedule_of checked.now) steps) }
+pub fn bounds(
+    alloc: Global,
+    checked: &Checked,
+    durations: Durations,
+    steps: u64,
+) -> Result<Bounds, AllocError>
+    ensures promises { IfOk result (Promises (schedule_of checked.now) durations) }
+    ensures value { IfOk result (λ b. b ≡ bounds_of (schedule_of checked.now) durations steps) }
 {
     let mut node = node_of(alloc, checked.term())?;
     begin(&mut node);
     let first = first_range(alloc, &node)?;
-    bounds_from(alloc, &mut node, first.1, steps)
+    bounds_from(alloc, &mut node, durations, first.1, steps)
 }
 
 // The bounds of at most `steps` steps, by the state after the first one and what it may decide.
@@ -37,24 +43,27 @@ pub fn bounds(alloc: Global, checked: &Checked, steps: u64) -> Result<Bounds, Al
 fn bounds_from(
     alloc: Global,
     node: &mut Node,
+    durations: Durations,
     first: Decisions,
     steps: u64,
 ) -> Result<Bounds, AllocError>
     requires firsts { KnowsFirsts node.old }
     ensures value { IfOk result (λ b.
-        b ≡ bounds_from (node_schedule node.old) steps (node_state node.old) first 0 no_bounds) }
+        b
+        ≡ bounds_from (node_schedule node.old) durations steps (node_state node.old) first 0
+        (no_bounds durations)) }
 {
     let mut decision = first;
     let mut passed = 0u64;
-    let mut told = Bounds::nothing();
+    let mut told = Bounds::nothing(durations);
     let mut out = OutRange::Nothing;
     for _ in 0..steps {
-        told = told.with_step(decision);
+        told = told.with_step(durations, decision);
         let Some(wait) = decision.waits else {
             return Ok(told.ended());
         };
-        let later = wait.low.saturating_add(1);
-        passed = passed.saturating_add(later);
+        let later = durations.time_between(wait);
+        passed = passed.saturating_add(later.low);
         if passed > MAX_TICK {
             return Ok(told);
         }

@@ -1,20 +1,23 @@
-//! What a schedule does for every history that a driver can make: how often it is stepped, and how
-//! long it waits.
+//! What a schedule does for every history that a driver can make: how often it is stepped, how long
+//! it waits, and how long the attempts and the waits take together.
 //!
-//! `bounds` steps a state with intervals in place of numbers. What it returns holds for every input
-//! and every duration of attempts. Start with `specs/Driven.antt` and `specs/Bounds.antt`, which
+//! `bounds` steps a state with intervals in place of numbers. What it returns holds for every input,
+//! if attempts take as long as `Durations` says. Start with `specs/Driven.antt` and `specs/Bounds.antt`, which
 //! say what is promised.
 //!
 //! ```rust
 //! let schedule = zs_term::read(alloc, "(exponential(100) && recurs(5))")?;
-//! let told = bounds(alloc, &schedule, 1000)?;
+//! let attempts = Durations { least: 1, most: Some(5000) };
+//! let told = bounds(alloc, &schedule, attempts, 1000)?;
 //! assert_eq!(rt; told.most, Some(6));
+//! assert_eq!(rt; told.longest_run, Some(33_100));
 //! ```
 #![tactic(auto)]
 
 mod answers;
 mod bounding;
 mod decisions;
+mod durations;
 mod laws;
 mod leaves;
 mod node;
@@ -25,6 +28,7 @@ mod stepping;
 mod told;
 
 pub use bounding::bounds;
+pub use durations::Durations;
 pub use laws::bounds_hold;
 pub use span::MAX_TICK;
 pub use told::Bounds;

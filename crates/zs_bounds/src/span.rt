@@ -66,13 +66,13 @@ impl Span {
         }
     }
 
-    // Some time more at least, and at most a whole clock.
-    pub(crate) fn more_time(self, later: u64) -> Span
+    // Some more time, and at most a whole clock.
+    pub(crate) fn more_time(self, later: Span) -> Span
         ensures value { result ≡ more_time later self }
     {
         Span {
-            low: self.low.saturating_add(later),
-            high: MAX_TICK,
+            low: self.low.saturating_add(later.low),
+            high: self.high.saturating_add(later.high).min(MAX_TICK),
         }
     }
 

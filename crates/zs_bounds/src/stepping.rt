@@ -27,7 +27,7 @@ pub(crate) fn step<'a>(
     alloc: Global,
     node: &mut Node,
     reads: &'a Reads<'a>,
-    later: u64,
+    later: Span,
     out: &mut OutRange,
 ) -> Result<Decisions, AllocError>
     requires firsts { KnowsFirsts node.old }
@@ -76,7 +76,7 @@ fn step_leaf(
     steps: &mut Span,
     time: &mut Span,
     reads: &Reads<'_>,
-    later: u64,
+    later: Span,
     out: &mut OutRange,
 ) -> Decisions
     ensures output { Shows reads.now out.new
@@ -100,7 +100,7 @@ fn step_both<'a>(
     first: &mut Node,
     second: &mut Node,
     reads: &'a Reads<'a>,
-    later: u64,
+    later: Span,
     out: &mut OutRange,
 ) -> Result<Decisions, AllocError>
     requires first_firsts { KnowsFirsts first.old }
@@ -138,7 +138,7 @@ fn step_either<'a>(
     first: &mut Node,
     second: &mut Node,
     reads: &'a Reads<'a>,
-    later: u64,
+    later: Span,
     out: &mut OutRange,
 ) -> Result<Decisions, AllocError>
     requires first_firsts { KnowsFirsts first.old }
@@ -177,7 +177,7 @@ fn step_pair<'a>(
     first: &mut Node,
     second: &mut Node,
     reads: &'a Reads<'a>,
-    later: u64,
+    later: Span,
     out: &mut OutRange,
 ) -> Result<(Decisions, Decisions), AllocError>
     requires first_firsts { KnowsFirsts first.old }
@@ -228,7 +228,7 @@ fn step_while_input<'a>(
     part: &mut Node,
     test: Test,
     reads: &'a Reads<'a>,
-    later: u64,
+    later: Span,
     out: &mut OutRange,
 ) -> Result<Decisions, AllocError>
     requires firsts { KnowsFirsts part.old }
@@ -258,7 +258,7 @@ fn step_while_output<'a>(
     pick: Pick,
     test: Test,
     reads: &'a Reads<'a>,
-    later: u64,
+    later: Span,
     out: &mut OutRange,
 ) -> Result<Decisions, AllocError>
     requires firsts { KnowsFirsts part.old }
@@ -289,7 +289,7 @@ fn step_collect_all<'a>(
     part: &mut Node,
     count: &mut Span,
     reads: &'a Reads<'a>,
-    later: u64,
+    later: Span,
     out: &mut OutRange,
 ) -> Result<Decisions, AllocError>
     requires firsts { KnowsFirsts part.old }
@@ -322,7 +322,7 @@ fn step_map<'a>(
     part: &mut Node,
     func: Func,
     reads: &'a Reads<'a>,
-    later: u64,
+    later: Span,
     out: &mut OutRange,
 ) -> Result<Decisions, AllocError>
     requires firsts { KnowsFirsts part.old }
@@ -364,7 +364,7 @@ fn step_reset_when<'a>(
     rule: ResetRule,
     first: (&OutRange, Decisions),
     reads: &'a Reads<'a>,
-    later: u64,
+    later: Span,
     out: &mut OutRange,
 ) -> Result<Decisions, AllocError>
     requires firsts { KnowsFirsts part.old }
@@ -405,7 +405,7 @@ fn step_and_then<'a>(
     first: &mut Node,
     second: &mut Node,
     reads: &'a Reads<'a>,
-    later: u64,
+    later: Span,
     out: &mut OutRange,
 ) -> Result<Decisions, AllocError>
     requires first_firsts { KnowsFirsts first.old }
@@ -460,7 +460,7 @@ fn step_merged<'a>(
     first: &mut Node,
     second: &mut Node,
     reads: &'a Reads<'a>,
-    later: u64,
+    later: Span,
     out: &mut OutRange,
 ) -> Result<Decisions, AllocError>
     requires first_firsts { KnowsFirsts first.old }
@@ -505,7 +505,7 @@ fn step_turns<'a>(
     first: &mut Node,
     second: &mut Node,
     reads: &'a Reads<'a>,
-    later: u64,
+    later: Span,
     out: &mut OutRange,
 ) -> Result<Decisions, AllocError>
     requires first_firsts { KnowsFirsts first.old }
@@ -563,7 +563,7 @@ fn step_first<'a>(
     turn: &mut Turn,
     part: &mut Node,
     reads: &'a Reads<'a>,
-    later: u64,
+    later: Span,
     out: &mut OutRange,
 ) -> Result<(Decisions, bool), AllocError>
     requires firsts { KnowsFirsts part.old }
@@ -621,7 +621,7 @@ fn step_second<'a>(
     turn: &mut Turn,
     part: &mut Node,
     reads: &'a Reads<'a>,
-    later: u64,
+    later: Span,
     out: &mut OutRange,
 ) -> Result<Decisions, AllocError>
     requires firsts { KnowsFirsts part.old }

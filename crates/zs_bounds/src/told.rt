@@ -1,9 +1,10 @@
 //! What is known of a schedule for every history that a driver can make.
 
 ghost use Rattle.std.specs.Prelude.{◌≡◌, ◌+◌, ◌<◌, ◌^◌};
-ghost use Rattle.zs_bounds.specs.BoundsOf.{no_bounds, with_step, ended, unended, sum_within, longest_in};
+ghost use Rattle.zs_bounds.specs.BoundsOf.{no_bounds, with_step, ended, unended, sum_within, longest_in, longer_run};
 
 use crate::decisions::Decisions;
+use crate::durations::Durations;
 use crate::span::Span;
 
 /// What holds for every history that a driver can make with a schedule.
@@ -20,12 +21,15 @@ pub struct Bounds {
     pub longest: u64,
     /// All waits together are at most this long, in milliseconds, if there is a bound.
     pub total: Option<u64>,
+    /// Each attempt ends at most this long after the begin of the first one, in milliseconds, if
+    /// there is a bound.
+    pub longest_run: Option<u64>,
 }
 
 impl Bounds {
-    // Before the first step.
-    pub(crate) fn nothing() -> Bounds
-        ensures value { result ≡ no_bounds }
+    // Before the first step, which is the end of the first attempt.
+    pub(crate) fn nothing(durations: Durations) -> Bounds
+        ensures value { result ≡ no_bounds durations }
     {
         Bounds {
             seen: 0,
@@ -33,13 +37,14 @@ impl Bounds {
             most: None,
             longest: 0,
             total: Some(0),
+            longest_run: durations.most,
         }
     }
 
     // One more step, with what it may decide.
-    pub(crate) fn with_step(self, decision: Decisions) -> Bounds
+    pub(crate) fn with_step(self, durations: Durations, decision: Decisions) -> Bounds
         requires within { self.seen + 1 < 2 ^ 64 }
-        ensures value { result ≡ with_step decision self }
+        ensures value { result ≡ with_step durations decision self }
     {
         let wait = longest_in(decision.waits);
         let goes_on = self.seen < self.least && !decision.stops;
@@ -53,6 +58,7 @@ impl Bounds {
             most: None,
             longest: self.longest.max(wait),
             total: sum_within(self.total, wait),
+            longest_run: longer_run(durations.most, decision.waits, self.longest_run),
         }
     }
 
@@ -73,6 +79,7 @@ impl Bounds {
         Bounds {
             most: None,
             total: None,
+            longest_run: None,
             ..self
         }
     }
@@ -93,4 +100,14 @@ fn sum_within(total: Option<u64>, wait: u64) -> Option<u64>
     ensures value { result ≡ sum_within total wait }
 {
     total?.checked_add(wait)
+}
+
+// The longest run with one more wait and attempt, if a step may go on.
+fn longer_run(most: Option<u64>, waits: Option<Span>, run: Option<u64>) -> Option<u64>
+    ensures value { result ≡ longer_run most waits run }
+{
+    match waits {
+        None => run,
+        Some(wait) => sum_within(sum_within(run, wait.high), most?),
+    }
 }

@@ -2,6 +2,7 @@
 use Rattle.std.specs.Prelude.{◌≡◌, ℕ, List, Option, Some, None}
 use Rattle.zs_term.specs.Schedule.{Schedule}
 use Rattle.zs_term.specs.Causes.{SpellsSchedule}
+use Rattle.zs_bounds.specs.Driven.{any_duration}
 use Rattle.zs_bounds.specs.Bounds.{Promises}
 use Rattle.zs_bounds.specs.BoundsOf.{bounds_of}
 use Rattle.zs_bounds.specs.declared.told.Bounds.{Bounds}
@@ -38,5 +39,5 @@ no_bounds_told = record { seen = 0; least = 0; has_most = 0; most = 0; longest =
 pub record IsBounded (text : List ℕ) (steps : ℕ) (r : BoundsTold) : Type 0 where
   pub term : Schedule
   pub spelled : SpellsSchedule text term
-  pub told : r ≡ bounds_told (bounds_of term steps)
-  pub promised : Promises term (bounds_of term steps)
+  pub told : r ≡ bounds_told (bounds_of term any_duration steps)
+  pub promised : Promises term any_duration (bounds_of term any_duration steps)

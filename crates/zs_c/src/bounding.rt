@@ -7,7 +7,7 @@ ghost use Rattle.zs_c.specs.Refusals.{IsTextRefusal};
 use crate::answering::schedule_in;
 use crate::refusal::Refusal;
 use std::alloc::Global;
-use zs_bounds::Bounds;
+use zs_bounds::{Bounds, Durations};
 
 /// What holds for every input and every duration of attempts. A field that says nothing is 0.
 #[repr(C)]
@@ -67,7 +67,7 @@ pub(crate) fn bounds_in(alloc: Global, text: &[u8], steps: u64) -> Result<Bounds
     ensures err { IfErr result (IsTextRefusal text.now) }
 {
     let checked = schedule_in(alloc, text)?;
-    let bounds = zs_bounds::bounds(alloc, &checked, steps)?;
+    let bounds = zs_bounds::bounds(alloc, &checked, Durations::any(), steps)?;
     Ok(BoundsTold::of(bounds))
 }
 

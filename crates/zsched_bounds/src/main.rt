@@ -8,7 +8,7 @@
 use std::alloc::Global;
 use std::io;
 use std::process::ExitCode;
-use zs_bounds::{Bounds, bounds};
+use zs_bounds::{Bounds, Durations, bounds};
 use zs_term::{TermFault, read, write};
 
 // At most this number of steps is looked at.
@@ -60,7 +60,7 @@ fn policy(rt: &impl Print, alloc: Global, line: &str) -> Result<(), Refusal> {
         Err(TermFault::Memory) => return Err(Refusal::Memory),
         Err(fault) => return Err(Refusal::Policy(fault)),
     };
-    let Ok(told) = bounds(alloc, &schedule, STEPS) else {
+    let Ok(told) = bounds(alloc, &schedule, Durations::any(), STEPS) else {
         return Err(Refusal::Memory);
     };
     let Ok(text) = write(alloc, &schedule) else {

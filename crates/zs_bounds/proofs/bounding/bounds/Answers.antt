@@ -14,5 +14,5 @@ returns-clause-promises c =
     let state : node_state c.begin.new.node ≡ first_state s = c.begin.ensures.state ∙ ap first_state made in
     let decides : c.in_ok-first.first.1 ≡ (first_range s).decision =
     ap (λ (r : AnswerRange). r.decision) c.in_ok-first.ensures.value ∙ ap (λ (t : Schedule). (first_range t).decision) same in
-    result-promises s (node_schedule c.begin.new.node) c.args.steps (node_state c.begin.new.node) c.in_ok-first.first.1 c.bounds_from.result
+    result-promises s (node_schedule c.begin.new.node) c.args.durations c.args.steps (node_state c.begin.new.node) c.in_ok-first.first.1 c.bounds_from.result
     same state decides c.term.ensures.schedule.factors c.bounds_from.ensures.value

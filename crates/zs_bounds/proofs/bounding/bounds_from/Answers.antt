@@ -9,11 +9,11 @@ pub loop-preserved : goal.loop-preserved
 loop-preserved c =
     let seen = ap (λ (b : Bounds). b.seen) c.with_step-told.ensures.value in
     record {
-      told = loop_keeps (node_schedule c.loop.node) (node_schedule c.step.new.node) c.args.steps c.loop.counter
+      told = loop_keeps (node_schedule c.loop.node) (node_schedule c.step.new.node) c.args.durations c.args.steps c.loop.counter
           (node_state c.loop.node) (node_state c.step.new.node) c.loop.decision c.in_ok-decision.decision
-          c.loop.passed c.saturating_add-later.result c.saturating_add-passed.result c.loop.told c.with_step-told.result
-          (bounds_from (node_schedule c.args.node.now) c.args.steps (node_state c.args.node.now) c.args.first 0 no_bounds)
-          c.in-Some.wait c.loop-test.true c.in-Some.is c.saturating_add-later.ensures c.saturating_add-passed.ensures
+          c.loop.passed c.saturating_add-passed.result c.time_between-later.result c.loop.told c.with_step-told.result
+          (bounds_from (node_schedule c.args.node.now) c.args.durations c.args.steps (node_state c.args.node.now) c.args.first 0 (no_bounds c.args.durations))
+          c.in-Some.wait c.loop-test.true c.in-Some.is c.time_between-later.ensures.value c.saturating_add-passed.ensures
           c.if-passed-gt-MAX_TICK.false c.in_ok-decision.ensures.same c.in_ok-decision.ensures.state
           c.in_ok-decision.ensures.decision c.with_step-told.ensures.value c.loop.invariant.told;
       seen = omega (arith, seen, c.loop.invariant.seen);

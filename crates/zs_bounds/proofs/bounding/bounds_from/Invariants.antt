@@ -7,8 +7,8 @@ use Rattle.zs_bounds.proofs.bounding.bounds_from.Given as goal
 -- the bounds so far, with what the later steps add, are the bounds of all steps
 abbrev pub invariant-loop : goal.invariant-loop
 invariant-loop l = record {
-  told : bounds_from (node_schedule l.node) (l.steps - l.counter) (node_state l.node) l.decision l.passed l.told
-      ≡ bounds_from (node_schedule l.fn.node) l.fn.steps (node_state l.fn.node) l.fn.first 0 no_bounds;
+  told : bounds_from (node_schedule l.node) l.durations (l.steps - l.counter) (node_state l.node) l.decision l.passed l.told
+      ≡ bounds_from (node_schedule l.fn.node) l.fn.durations l.fn.steps (node_state l.fn.node) l.fn.first 0 (no_bounds l.fn.durations);
   seen : l.told.seen ≡ l.counter;
   passed : l.passed ≤ max_tick;
   firsts : KnowsFirsts l.node;
