@@ -1,13 +1,16 @@
 -- Each history of a job's timeline is one that a driver can make.
 use Rattle.std.proofs.Common.{◌≡◌, ℕ, ◌+◌, ◌-◌, ◌≤◌, ◌<◌, max, min, List, [], ◌∷◌, ◌++◌, length, Option, refl, sym, ap, subst, arith}
 use Rattle.std.specs.Prelude.{Some, None}
+use Rattle.std.specs.List.{All}
 use Rattle.zs_term.specs.Saturating.{saturated, max_moment}
 use Rattle.zs_effect.specs.Scripts.{IsScript, entry_at, no_entry}
 use Rattle.zs_effect.specs.declared.script.Beat.{Beat}
 use Rattle.zs_step.specs.declared.decision.Decision.{Decision}
 use Rattle.zs_step.specs.declared.decision.Decision.TheVariants.{Stop, Next}
-use Rattle.zs_step.specs.History.{History}
+use Rattle.zs_step.specs.History.{History, first_moment}
 use Rattle.zs_step.specs.Answer.{Answer, answer_of}
+use Rattle.zs_step.specs.Laws.{IsNotBefore}
+use Rattle.zs_step.proofs.Moments.{answer_of-late}
 use Rattle.zs_drive.specs.declared.record.Ending.{Ending}
 use Rattle.zs_drive.specs.Clocks.{first_tick_from, AreTicks, max_tick}
 use Rattle.zs_drive.specs.Values.{JobRecord, AttemptedValue, EndedValue}
@@ -15,16 +18,25 @@ use Rattle.zs_drive.specs.Timeline.{timeline_of, beat_after, number_of, ending_b
 use Rattle.zs_drive.specs.DriverRules.{pair_of, history_from}
 use Rattle.zs_drive.proofs.Follows.{GoesOn, IsAsked, EndsAt, Follows}
 use Rattle.zs_drive.proofs.Ticks.{first_tick_from-from, first_tick_from-before}
-use Rattle.zs_drive.proofs.Extending.{beat-takes, saturated-after}
 use Rattle.zs_drive.proofs.Following.{timeline_of-keeps}
-use Rattle.zs_bounds.specs.Driven.{IsStep, LetsEndAt, IsDriven}
+use Rattle.zs_bounds.specs.declared.durations.Durations.{Durations}
+use Rattle.zs_bounds.specs.Driven.{any_duration, shortest, IsStep, IsAttempt, LetsEndAt, IsDriven}
+use Rattle.zs_bounds.specs.Bounds.{NextEndsAt}
 use Rattle.zs_job_bounds.specs.Histories.{HasInputs, IsEndAfter, history_at, IsHistoryOf}
+use Rattle.zs_job_bounds.specs.JobBounds.{Takes}
 
--- an entry's input has 64 bits
-input-fits : (beats : List Beat) (k : ℕ) → IsScript beats → HasInputs beats → number_of (entry_at beats k).outcome ≤ max_moment
-input-fits beats k script inputs =
+-- an entry of a script has what all its entries have
+entry-has : (P : Beat → Type 0) (beats : List Beat) (k : ℕ) → IsScript beats → All P beats → P (entry_at beats k)
+entry-has P beats k script all =
     let index : min k (length beats) - 1 < length beats = omega (arith, script.some) in
-    inputs (min k (length beats) - 1) no_entry index
+    all (min k (length beats) - 1) no_entry index
+
+-- each attempt takes 1 millisecond or more
+pub takes-any : (job : JobRecord) (ticks : List ℕ) → IsScript job.script → Takes any_duration job ticks
+takes-any job ticks script = record {
+  least = λ k e inside. let one = script.timed k e inside in omega (arith, one);
+  most = λ k none. absurd cc;
+}
 
 not-empty : (xs ys : List AttemptedValue) (a : AttemptedValue) → xs ++ a ∷ ys ≡ [] → ⊥
 not-empty [] ys a is = cc
@@ -32,28 +44,47 @@ not-empty (x ∷ xs) ys a is = cc
 
 -- ---- an attempt that is due at a moment after some history
 
--- a decision to continue at this moment or before
+-- a decision to continue at this moment
 abbrev pub LetsBegin : Decision → ℕ → Type 0
 LetsBegin Stop x = ⊥
-LetsBegin (Next y) x = y ≤ x
+LetsBegin (Next y) x = y ≡ x
+
+-- a history that a driver can make, if the first attempt is due at the job's start
+abbrev pub IsRunOf : Durations → JobRecord → History → Type 0
+IsRunOf d job h = IsDriven job.schedule d h × IsAttempt d job.start (first_moment h)
 
 -- the first attempt, or one that a step lets begin, after a history that a driver can make
-abbrev pub IsDueAfter : JobRecord → History → ℕ → Type 0
-IsDueAfter job [] x = Unit {0}
-IsDueAfter job (q ∷ h) x = IsDriven job.schedule (q ∷ h) × LetsBegin (answer_of job.schedule (q ∷ h)).decision x
+abbrev pub IsDueAfter : Durations → JobRecord → History → ℕ → Type 0
+IsDueAfter d job [] x = x ≡ job.start
+IsDueAfter d job (q ∷ h) x = IsRunOf d job (q ∷ h) × LetsBegin (answer_of job.schedule (q ∷ h)).decision x
 
-lets-end : (d : Decision) (x m : ℕ) → LetsBegin d x → x < m → LetsEndAt d m
-lets-end Stop x m lets late = lets
-lets-end (Next y) x m lets late = omega (arith, lets, late)
+lets-end : (d : Durations) (e : Decision) (x m : ℕ) → LetsBegin e x → IsAttempt d x m → LetsEndAt d e m
+lets-end d Stop x m lets attempt = lets
+lets-end d (Next y) x m lets attempt = subst (λ z. IsAttempt d z m) (sym lets) attempt
+
+-- an attempt that is due ends
+pub next-ends : (d : Durations) (job : JobRecord) (h : History) (x m : ℕ) → IsDueAfter d job h x → IsAttempt d x m → NextEndsAt job.schedule d job.start h m
+next-ends d job [] x m due attempt = subst (λ z. IsAttempt d z m) due attempt
+next-ends d job (q ∷ h) x m due attempt = (due.0.0, due.0.1, lets-end d (answer_of job.schedule (q ∷ h)).decision x m due.1 attempt)
 
 -- a step after the attempt that is due makes a longer history
-driven-step : (job : JobRecord) (h : History) (x : ℕ) (p : ℕ × ℕ) → IsDueAfter job h x → IsStep p → x < p.0 → IsDriven job.schedule (p ∷ h)
-driven-step job [] x p due step late = step
-driven-step job (q ∷ h) x p due step late = (step, lets-end (answer_of job.schedule (q ∷ h)).decision x p.0 due.1 late, due.0)
+driven-step : (d : Durations) (job : JobRecord) (h : History) (x : ℕ) (p : ℕ × ℕ) → IsDueAfter d job h x → IsStep p → IsAttempt d x p.0
+    → IsRunOf d job (p ∷ h)
+driven-step d job [] x p due step attempt = (step, subst (λ z. IsAttempt d z p.0) due attempt)
+driven-step d job (q ∷ h) x p due step attempt =
+    ((step, lets-end d (answer_of job.schedule (q ∷ h)).decision x p.0 due.1 attempt, due.0.0), due.0.1)
 
-pub next-due : (job : JobRecord) (h : History) (p : ℕ × ℕ) (y x : ℕ) → IsDriven job.schedule (p ∷ h) → (answer_of job.schedule (p ∷ h)).decision ≡ Next y → y ≤ x
-    → IsDueAfter job (p ∷ h) x
-next-due job h p y x driven is le = (driven, subst (λ d. LetsBegin d x) (sym is) le)
+-- the last step of a history is one of a clock
+run-tick : (d : Durations) (job : JobRecord) (p : ℕ × ℕ) (h : History) → IsDriven job.schedule d (p ∷ h) → IsStep p
+run-tick d job p [] driven = driven
+run-tick d job p (q ∷ h) driven = driven.0
+
+pub next-due : (d : Durations) (job : JobRecord) (h : History) (p : ℕ × ℕ) (y x : ℕ) → IsRunOf d job (p ∷ h)
+    → (answer_of job.schedule (p ∷ h)).decision ≡ Next y → x ≡ max y p.0 → IsDueAfter d job (p ∷ h) x
+next-due d job h p y x run is at =
+    let step : IsStep p = run-tick d job p h run.0 in
+    let late : p.0 ≤ y = subst (IsNotBefore p.0) is (answer_of-late job.schedule (p ∷ h) (omega (arith, step.tick))) in
+    (run, subst (λ e. LetsBegin e x) (sym is) (omega (arith, at, late)))
 
 module _ (job : JobRecord) (ticks : List ℕ) (due : Option ℕ) (ending : Option Ending) where
   -- what follows an attempt's end, by the schedule's decision
@@ -92,28 +123,56 @@ module _ (job : JobRecord) (ticks : List ℕ) (due : Option ℕ) (ending : Optio
     by = goes-asked later h end (ending_by_outcome job.mode end.outcome) some ends.2;
   }
 
-module _ (job : JobRecord) (script : IsScript job.script) (inputs : HasInputs job.script) (ticks : List ℕ) (clock : AreTicks ticks) where
+module _ (d : Durations) (job : JobRecord) (script : IsScript job.script) (inputs : HasInputs job.script) (ticks : List ℕ) (clock : AreTicks ticks)
+    (takes : Takes d job ticks) where
+  -- an attempt that is due at x takes as long as its entry of the script says; with a most, it begins at x
+  pub attempt-from : (h : History) (x s : ℕ) → x ≤ s → ((k : ℕ) → d.most ≡ Some k → s ≡ x) → IsAttempt d x (s + (beat_after job h).ms)
+  attempt-from h x s from begins = record {
+    least = (
+        let least : shortest d ≤ (beat_after job h).ms = entry-has (λ beat. shortest d ≤ beat.ms) job.script (length h + 1) script takes.least in
+        omega (arith, from, least));
+    most = λ k e. (
+        let most : (beat_after job h).ms ≤ k = entry-has (λ beat. beat.ms ≤ k) job.script (length h + 1) script (takes.most k e).0 in
+        let at = begins k e in
+        omega (arith, at, most));
+  }
+
+  -- the same if it has begun
+  pub attempt-of : (h : History) (x s : ℕ) → first_tick_from ticks x ≡ Some s → IsAttempt d x (s + (beat_after job h).ms)
+  attempt-of h x s begun = attempt-from h x s (first_tick_from-from ticks x s begun) (λ k e. (takes.most k e).1 x s begun)
+
+  -- it ends at the first tick that is late enough
+  attempt-ends : (h : History) (x s w at : ℕ) → first_tick_from ticks x ≡ Some s → w ≡ saturated (s + (beat_after job h).ms)
+      → first_tick_from ticks w ≡ Some at → at < max_tick + 1 → IsAttempt d x at
+  attempt-ends h x s w at begun due ended small =
+      let attempt = attempt-of h x s begun in
+      let late : w ≤ at = first_tick_from-from ticks w at ended in
+      record {
+        least = (let least = attempt.least in omega (arith, least, due, late, small));
+        most = λ k e. (
+            let most = attempt.most k e in
+            let now : at ≡ w = (takes.most k e).1 w at ended in
+            omega (arith, most, due, now));
+      }
+
   -- the end of an attempt that is due at x makes a history that a driver can make
-  pub driven-end : (h : History) (x s : ℕ) (end : EndedValue) → IsDueAfter job h x → first_tick_from ticks x ≡ Some s
+  pub driven-end : (h : History) (x s : ℕ) (end : EndedValue) → IsDueAfter d job h x → first_tick_from ticks x ≡ Some s
       → first_tick_from ticks (saturated (s + (beat_after job h).ms)) ≡ Some end.at → end.outcome ≡ (beat_after job h).outcome
-      → IsDriven job.schedule (pair_of end ∷ h)
+      → IsRunOf d job (pair_of end ∷ h)
   driven-end h x s end due begun ended own =
       let w : ℕ = saturated (s + (beat_after job h).ms) in
-      let from : x ≤ s = first_tick_from-from ticks x s begun in
-      let small : s < max_tick + 1 = first_tick_from-before ticks (max_tick + 1) x s clock.bounded begun in
-      let takes : 1 ≤ (beat_after job h).ms = beat-takes job.script (length h + 1) script in
-      let later : s < w = saturated-after s max_tick (beat_after job h).ms (omega (arith, small)) (omega arith) takes in
-      let at : w ≤ end.at = first_tick_from-from ticks w end.at ended in
       let tick : end.at < max_tick + 1 = first_tick_from-before ticks (max_tick + 1) w end.at clock.bounded ended in
-      let input : number_of (beat_after job h).outcome ≤ max_moment = input-fits job.script (length h + 1) script inputs in
+      let input : number_of (beat_after job h).outcome ≤ max_moment =
+      entry-has (λ beat. number_of beat.outcome ≤ max_moment) job.script (length h + 1) script inputs in
       let same : number_of end.outcome ≡ number_of (beat_after job h).outcome = ap number_of own in
-      driven-step job h x (pair_of end) due (record { tick = omega (arith, tick); input = omega (arith, input, same) }) (omega (arith, from, later, at))
+      driven-step d job h x (pair_of end) due (record { tick = omega (arith, tick); input = omega (arith, input, same) })
+      (attempt-ends h x s w end.at begun refl ended tick)
 
   module _ (due : Option ℕ) (ending : Option Ending) where
     -- an attempt that follows others after history h: when it is due, after which history
     pub record Place (h : History) (earlier later : List AttemptedValue) (a : AttemptedValue) : Type 0 where
       pub x : ℕ
-      pub due_after : IsDueAfter job (history_from h earlier) x
+      pub due_after : IsDueAfter d job (history_from h earlier) x
       pub count : length (history_from h earlier) ≡ length h + length earlier
       pub follows : Follows job ticks (a ∷ later) due ending (history_from h earlier) x
 
@@ -122,10 +181,10 @@ module _ (job : JobRecord) (script : IsScript job.script) (inputs : HasInputs jo
       pub end : EndedValue
       pub y : ℕ
       pub is : ended ≡ Some end
-      pub due_after : IsDueAfter job (pair_of end ∷ h) y
+      pub due_after : IsDueAfter d job (pair_of end ∷ h) y
       pub follows : Follows job ticks later due ending (pair_of end ∷ h) y
 
-    pub continues : (later : List AttemptedValue) (a : AttemptedValue) (h : History) (x : ℕ) → (later ≡ [] → ⊥) → IsDueAfter job h x
+    pub continues : (later : List AttemptedValue) (a : AttemptedValue) (h : History) (x : ℕ) → (later ≡ [] → ⊥) → IsDueAfter d job h x
         → Follows job ticks (a ∷ later) due ending h x → Continues later h a.ended
     unfolding Follows
     continues later a h x some begins follows =
@@ -134,11 +193,11 @@ module _ (job : JobRecord) (script : IsScript job.script) (inputs : HasInputs jo
           end = g.end;
           y = max g.by.y g.end.at;
           is = g.is;
-          due_after = next-due job h (pair_of g.end) g.by.y (max g.by.y g.end.at) (driven-end h x a.begun g.end begins follows.0 g.at g.own) g.by.next (omega arith);
+          due_after = next-due d job h (pair_of g.end) g.by.y (max g.by.y g.end.at) (driven-end h x a.begun g.end begins follows.0 g.at g.own) g.by.next refl;
           follows = g.by.follows;
         }
 
-    pub place : (earlier later : List AttemptedValue) (a : AttemptedValue) (h : History) (x : ℕ) → IsDueAfter job h x
+    pub place : (earlier later : List AttemptedValue) (a : AttemptedValue) (h : History) (x : ℕ) → IsDueAfter d job h x
         → Follows job ticks (earlier ++ a ∷ later) due ending h x → Place h earlier later a
     place [] later a h x begins follows = record { x = x; due_after = begins; count = omega arith; follows = follows }
     place (b ∷ earlier) later a h x begins follows =
@@ -157,7 +216,7 @@ module _ (job : JobRecord) (script : IsScript job.script) (inputs : HasInputs jo
 
   -- what is known of an end: its history, and the step there
   pub record KnownEnd (earlier : List AttemptedValue) (end : EndedValue) : Type 0 where
-    pub driven : IsDriven job.schedule (history_at earlier end)
+    pub driven : IsRunOf d job (history_at earlier end)
     pub count : length (history_at earlier end) ≡ length earlier + 1
     pub stepped : (step : Answer) → end.step ≡ Some step → step ≡ answer_of job.schedule (history_at earlier end)
 
@@ -174,7 +233,7 @@ module _ (job : JobRecord) (script : IsScript job.script) (inputs : HasInputs jo
       let from : Follows job ticks (earlier ++ a ∷ e.later) (timeline_of job ticks).due (timeline_of job ticks).ending [] job.start =
       subst (λ (xs : List AttemptedValue). Follows job ticks xs (timeline_of job ticks).due (timeline_of job ticks).ending [] job.start) e.split whole in
       let r : Place (timeline_of job ticks).due (timeline_of job ticks).ending [] earlier e.later a =
-      place (timeline_of job ticks).due (timeline_of job ticks).ending earlier e.later a [] job.start tt from in
+      place (timeline_of job ticks).due (timeline_of job ticks).ending earlier e.later a [] job.start refl from in
       record {
         driven = driven-end (history_from [] earlier) r.x e.begun end r.due_after r.follows.0 r.follows.1.0 r.follows.1.1;
         count = omega (arith, r.count);
@@ -185,5 +244,5 @@ module _ (job : JobRecord) (script : IsScript job.script) (inputs : HasInputs jo
       → step ≡ answer_of job.schedule (history_at earlier end)
   steps-on-histories earlier end step e is = (known-end earlier end e).stepped step is
 
-  pub histories-driven : (h : History) → IsHistoryOf job ticks h → IsDriven job.schedule h
-  histories-driven h of = subst (IsDriven job.schedule) (sym of.is) (known-end of.earlier of.end of.ends).driven
+  pub histories-driven : (h : History) → IsHistoryOf job ticks h → IsDriven job.schedule d h
+  histories-driven h of = subst (IsDriven job.schedule d) (sym of.is) (known-end of.earlier of.end of.ends).driven.0

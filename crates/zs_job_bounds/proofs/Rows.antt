@@ -1,7 +1,8 @@
 -- Worked jobs, each worked out by hand from docs/SEMANTICS.md, and the bounds of their schedule.
 -- They hold by computing, but for the one that applies the laws: a job can satisfy their premises.
-use Rattle.std.proofs.Common.{◌≡◌, ℕ, zero, suc, ◌≤◌, ◌<◌, List, [], ◌∷◌, length, refl, arith, ◌+◌}
+use Rattle.std.proofs.Common.{◌≡◌, ℕ, zero, suc, ◌≤◌, ◌<◌, List, [], ◌∷◌, length, refl, subst, arith, ◌+◌}
 use Rattle.std.specs.Prelude.{Some, None, slice_index_or}
+use Rattle.std.specs.List.{All}
 use Rattle.zs_term.specs.Saturating.{max_moment}
 use Rattle.zs_effect.specs.Scripts.{IsScript}
 use Rattle.zs_effect.specs.declared.script.Beat.{Beat}
@@ -16,11 +17,17 @@ use Rattle.zs_drive.specs.declared.record.Ending.TheVariants.{Succeeded, Failed}
 use Rattle.zs_drive.specs.Clocks.{first_tick_from, RisesFrom, AllBefore, AreTicks}
 use Rattle.zs_drive.specs.Values.{JobRecord, AttemptedValue}
 use Rattle.zs_drive.specs.Timeline.{number_of, ended_attempt, timeline_of, from, from_begin, from_wait, by_outcome, by_answer}
+use Rattle.zs_agenda.specs.Ticks.{every_ms}
+use Rattle.zs_engine.specs.Times.{moments_from, ticks_of}
+use Rattle.zs_bounds.specs.declared.durations.Durations.{Durations}
 use Rattle.zs_bounds.specs.declared.told.Bounds.{Bounds}
+use Rattle.zs_bounds.specs.Driven.{any_duration}
 use Rattle.zs_bounds.specs.BoundsOf.{bounds_of}
 use Rattle.zs_bounds.proofs.Promising.{bounds_of-promises}
 use Rattle.zs_job_bounds.specs.Histories.{IsHistoryOf}
-use Rattle.zs_job_bounds.specs.JobBounds.{all_waits, IsWithin}
+use Rattle.zs_job_bounds.specs.JobBounds.{Takes, all_waits, IsWithin, EndsInTime}
+use Rattle.zs_job_bounds.proofs.Histories.{takes-any}
+use Rattle.zs_job_bounds.proofs.Plans.{every_ms-ticks}
 use Rattle.zs_job_bounds.proofs.Within.{within-bounds}
 
 -- waits of 100 and 200 ms, and no third wait
@@ -28,7 +35,7 @@ abbrev backoff : Schedule
 backoff = two both (leaf (exponential 100 2)) (leaf (recurs 2))
 
 -- so at least and at most 3 attempts, no wait over 200 ms, and 300 ms in all
-three_attempts : bounds_of backoff 20 ≡ record { seen = 3; least = 3; most = Some 3; longest = 200; total = Some 300 }
+three_attempts : bounds_of backoff any_duration 20 ≡ record { seen = 3; least = 3; most = Some 3; longest = 200; total = Some 300; longest_run = None }
 three_attempts = refl
 
 abbrev retry : List Beat → JobRecord
@@ -107,14 +114,16 @@ busy-ticks = record {
   bounded = (omega arith, (omega arith, (omega arith, (omega arith, (omega arith, (omega arith, tt))))));
 }
 
-fails_thrice-within : IsWithin (bounds_of backoff 20) (timeline_of failing busy).attempts
-fails_thrice-within = within-bounds failing (bounds_of backoff 20) (bounds_of-promises backoff 20 refl) fails-script fails-inputs busy busy-ticks
+fails_thrice-within : IsWithin (bounds_of backoff any_duration 20) (timeline_of failing busy).attempts
+fails_thrice-within =
+    within-bounds any_duration failing (bounds_of backoff any_duration 20) (bounds_of-promises backoff any_duration 20 refl) fails-script fails-inputs
+    busy busy-ticks (takes-any failing busy fails-script)
 
 -- ---- smaller bounds don't hold
 
 -- the bounds of `backoff`, but for these
 abbrev but_for : ℕ → ℕ → ℕ → ℕ → Bounds
-but_for least most longest total = record { seen = 3; least = least; most = Some most; longest = longest; total = Some total }
+but_for least most longest total = record { seen = 3; least = least; most = Some most; longest = longest; total = Some total; longest_run = None }
 
 no_fewer_attempts : IsWithin (but_for 3 2 200 300) (timeline_of failing busy).attempts → ⊥
 unfolding timeline_of from from_begin from_wait by_outcome by_answer first_tick_from
@@ -141,3 +150,59 @@ no_shorter_wait within =
 no_less_waiting : IsWithin (but_for 3 3 200 299) (timeline_of failing busy).attempts → ⊥
 unfolding timeline_of from from_begin from_wait by_outcome by_answer first_tick_from
 no_less_waiting within = let less : 300 ≤ 299 = within.total 299 refl in omega (arith, less)
+
+-- ---- attempts with a most, on a clock that ticks each millisecond
+
+-- waits of 1 and 2 ms between attempts of 1 ms: 6 ms in all
+abbrev quick : JobRecord
+quick = record {
+  name = [];
+  mode = Retry;
+  schedule = two both (leaf (exponential 1 2)) (leaf (recurs 2));
+  start = 0;
+  script = record { ms = 1; outcome = Bad 500 } ∷ [];
+}
+
+abbrev of_1_ms : Durations
+of_1_ms = record { least = 1; most = Some 1 }
+
+six_ms : bounds_of quick.schedule of_1_ms 20 ≡ record { seen = 3; least = 3; most = Some 3; longest = 2; total = Some 3; longest_run = Some 6 }
+six_ms = refl
+
+-- a horizon of 6 ms
+abbrev short : List ℕ
+short = ticks_of (every_ms 6)
+
+quick_attempts : timeline_of quick short ≡ record {
+  attempts = failed 0 1 1 0 (Next 2) ∷ failed 2 3 2 1 (Next 5) ∷ failed 5 6 4 2 Stop ∷ [];
+  due = None;
+  ending = Some (Failed 500);
+}
+unfolding timeline_of from from_begin from_wait by_outcome by_answer first_tick_from moments_from ticks_of
+quick_attempts = refl
+
+quick-least : (k : ℕ) (d : Beat) → k < 1 → 1 ≤ (slice_index_or quick.script k d).ms
+quick-least zero d lt = omega arith
+quick-least (suc k) d lt = absurd (omega (arith, lt))
+
+quick-most : (k : ℕ) (d : Beat) → k < 1 → (slice_index_or quick.script k d).ms ≤ 1
+quick-most zero d lt = omega arith
+quick-most (suc k) d lt = absurd (omega (arith, lt))
+
+-- its attempts take 1 ms on this clock
+quick-takes : Takes of_1_ms quick short
+quick-takes = record {
+  least = quick-least;
+  most = λ k is. let one : 1 ≡ k = cc in (subst (λ n. All (λ beat. beat.ms ≤ n) quick.script) one quick-most, every_ms-ticks 6);
+}
+
+-- so the job ends within 6 ms, and not within 5
+no_shorter_run : EndsInTime (record { seen = 3; least = 3; most = Some 3; longest = 2; total = Some 3; longest_run = Some 5 }) short 0
+    (timeline_of quick short).attempts (timeline_of quick short).ending → ⊥
+unfolding timeline_of from from_begin from_wait by_outcome by_answer first_tick_from moments_from ticks_of
+no_shorter_run in_time =
+    let late : 6 ≤ 0 + 5 =
+    in_time.ends 5 refl (failed 0 1 1 0 (Next 2) ∷ failed 2 3 2 1 (Next 5) ∷ [])
+    (record { at = 6; outcome = Bad 500; step = Some (answer (pair (number 4) (number 2)) Stop) })
+    (record { begun = 5; later = []; split = refl }) in
+    omega (arith, late)

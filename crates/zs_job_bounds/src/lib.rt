@@ -1,7 +1,8 @@
 //! What the bounds of a schedule say about the jobs that have this schedule.
 //!
 //! Every history of a job's timeline is one that a driver can make. So what `zs_bounds::bounds`
-//! promises holds for the job, on every clock and for every script. There is nothing to call: the
+//! promises holds for the job, on every clock and for every script. A longest run holds for clocks
+//! that tick each millisecond. There is nothing to call: the
 //! functions are laws, and their contracts are what they say.
 //!
 //! Begin with `specs/JobBounds.antt`.
@@ -9,4 +10,7 @@
 
 mod laws;
 
-pub use laws::{histories_are_driven, jobs_are_within_bounds, plans_are_within_bounds};
+pub use laws::{
+    histories_are_driven, jobs_are_within_bounds, jobs_end_in_time, plans_are_within_bounds,
+    plans_end_in_time,
+};

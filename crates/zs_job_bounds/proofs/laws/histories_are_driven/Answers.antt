@@ -1,8 +1,13 @@
-use Rattle.zs_job_bounds.proofs.Histories.{steps-on-histories, histories-driven}
+use Rattle.zs_bounds.specs.Driven.{any_duration}
+use Rattle.zs_job_bounds.proofs.Histories.{takes-any, steps-on-histories, histories-driven}
 use Rattle.zs_job_bounds.proofs.laws.histories_are_driven.Goals as goal
 
 pub returns-clause-stepped : goal.returns-clause-stepped
-returns-clause-stepped c job ticks script inputs clock = steps-on-histories job script inputs ticks clock
+returns-clause-stepped c job ticks script inputs clock =
+    steps-on-histories any_duration job script inputs ticks clock (takes-any job ticks script)
 
 pub returns-clause-driven : goal.returns-clause-driven
-returns-clause-driven c job ticks script inputs clock = histories-driven job script inputs ticks clock
+returns-clause-driven c job ticks script inputs clock d takes = histories-driven d job script inputs ticks clock takes
+
+pub returns-clause-any : goal.returns-clause-any
+returns-clause-any c job ticks script inputs clock = takes-any job ticks script
