@@ -9,12 +9,12 @@ use Rattle.zs_run.specs.Head.{head_of, job_of_bytes}
 use Rattle.zs_run.specs.Plan.{max_bytes}
 use Rattle.zs_run.specs.declared.plan_fault.PlanFault.{PlanFault}
 use Rattle.zs_run.specs.declared.plan_fault.PlanFault.TheVariants as faults
-use Rattle.zs_population.specs.Buffers.{LineRead, Took}
+use Rattle.zs_lines.specs.Buffers.{LineRead, Took}
 use Rattle.zs_population.specs.Population.{block_jobs, jobs_at}
 use Rattle.zs_population.specs.Reads.{AddsJob, BlockFault, BlockReads, BlockRefused, HeadFault, IsNoJob, line_fault_of, names_of}
-use Rattle.zs_population.specs.declared.buffer.LineFault.{LineFault}
-use Rattle.zs_population.specs.declared.buffer.LineFault.TheVariants as unread
-use Rattle.zs_population.proofs.LineLemmas.{begins, begins-more, took-more, took-nothing}
+use Rattle.zs_lines.specs.declared.buffer.LineFault.{LineFault}
+use Rattle.zs_lines.specs.declared.buffer.LineFault.TheVariants as unread
+use Rattle.zs_lines.proofs.LineLemmas.{begins, begins-more, took-more, took-nothing}
 use Rattle.zs_population.proofs.JobsLemmas.{head-refused, job-at-fault, jobs-joined, jobs-refused, one-job, one-refused}
 
 -- ---- lines that are too long
@@ -30,7 +30,7 @@ job-too-long number names line long = rw (lt-leb (length line) max_bytes long) r
 -- ---- the head
 
 -- the first line can't be read
-pub head-unread : (old now : Option (List ℕ)) (line : List ℕ) (fault : LineFault) → LineRead (Err fault) old now line → HeadFault old (line_fault_of 1 fault)
+pub head-unread : (old now : Option (List ℕ)) (line : List ℕ) (fault : LineFault) → LineRead max_bytes (Err fault) old now line → HeadFault old (line_fault_of 1 fault)
 head-unread old now line unread.Read read = tt
 head-unread old now line unread.TooLong read = (refl, λ other. head-refused old read.0 faults.TooLong (head-too-long read.0 read.1) read.2)
 head-unread old now line unread.Memory read = (refl, λ other. absurd (other refl))
@@ -70,7 +70,7 @@ reads-all first old mid now known names jobs reads took earlier knows =
 
 -- the line after some jobs can't be read
 pub block-unread : (first k number : ℕ) (old mid now : Option (List ℕ)) (known names : BTreeSet (String Global)) (line : List ℕ) (jobs : List JobRecord) (fault : LineFault)
-    → k ≡ length jobs → number ≡ first + k → k < block_jobs → BlockReads first old mid known names jobs → LineRead (Err fault) mid now line
+    → k ≡ length jobs → number ≡ first + k → k < block_jobs → BlockReads first old mid known names jobs → LineRead max_bytes (Err fault) mid now line
     → BlockFault first old known (line_fault_of (number + 2) fault)
 block-unread first k number old mid now known names line jobs unread.Read count is few reads read = tt
 block-unread first k number old mid now known names line jobs unread.TooLong count is few reads read = (

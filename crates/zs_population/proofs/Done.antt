@@ -15,10 +15,10 @@ use Rattle.zs_run.specs.Plan.{PlanRecord}
 use Rattle.zs_run.specs.PlanReport.{jobs_text, polls_of, report_of, with_total}
 use Rattle.zs_run.proofs.Parts.{text_of_two, polls_of_two}
 use Rattle.zs_population.specs.Blocks.{IsDone}
-use Rattle.zs_population.specs.Buffers.{Took}
+use Rattle.zs_lines.specs.Buffers.{Took}
 use Rattle.zs_population.specs.Population.{block_jobs, jobs_at}
 use Rattle.zs_population.specs.Reads.{BlockReads, names_of}
-use Rattle.zs_population.proofs.LineLemmas.{begins, took-more, took-nothing}
+use Rattle.zs_lines.proofs.LineLemmas.{begins, took-more, took-nothing}
 use Rattle.zs_population.proofs.JobsLemmas.{jobs-joined}
 
 -- nothing is appended

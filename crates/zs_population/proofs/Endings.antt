@@ -1,6 +1,6 @@
 -- How the run of a population ends after some blocks are done.
 use Rattle.std.proofs.Common.{◌≡◌, ◌<◌, ◌≤◌, ◌+◌, ◌*◌, ◌-◌, ◌/◌, ℕ, zero, suc, List, [], ◌∷◌, ◌++◌, length, take, Bool, true, false, Ok, Err, Option, None, Some, refl, ap, ◌∙◌, append-nil, arith, String, Global}
-use Rattle.std.specs.Prelude.{IfSome, IsErrOf, IsTrue, ◌↔◌}
+use Rattle.std.specs.Prelude.{IsErrOf, IsTrue, ◌↔◌}
 use Rattle.std.specs.BTreeSet.{BTreeSet}
 use Rattle.std.specs.Io.KnownBytes.{Appends, IsAtEnd, prepend_known}
 use Rattle.std.proofs.lemmas.Nat.{div-mul-add}
@@ -9,15 +9,14 @@ use Rattle.zs_engine.specs.declared.fault.EngineFault.{EngineFault}
 use Rattle.zs_run.specs.Head.{HeadRecord, head_of}
 use Rattle.zs_run.specs.Plan.{PlanRecord}
 use Rattle.zs_run.specs.PlanReport.{jobs_text, polls_of, with_total}
-use Rattle.zs_population.specs.Lines.{lines_of}
 use Rattle.zs_population.specs.Blocks.{IsDone, IsWhole}
-use Rattle.zs_population.specs.Buffers.{Took}
+use Rattle.zs_lines.specs.Buffers.{Took}
 use Rattle.zs_population.specs.Ending.{Ends, WroteBlocks}
 use Rattle.zs_population.specs.Population.{block_jobs}
 use Rattle.zs_population.specs.Reads.{BlockFault, BlockReads, names_of}
 use Rattle.zs_population.specs.declared.fault.PopulationFault.{PopulationFault}
 use Rattle.zs_population.specs.declared.fault.PopulationFault.TheVariants.{Read, Line, Engine, Write}
-use Rattle.zs_population.proofs.LineLemmas.{begins, begins-more, took-more}
+use Rattle.zs_lines.proofs.LineLemmas.{all-read, begins, begins-more, took-more}
 use Rattle.zs_population.proofs.JobsLemmas.{job-refused, jobs-refused, populated}
 use Rattle.zs_population.proofs.Done.{all-written, joined, part-written}
 
@@ -28,18 +27,6 @@ unset false never = refl
 -- a mark that is set at a failed read alone, by the fault
 pub as-fault : {A : Type 0} (mark : Bool) (fault : PopulationFault) → IsTrue mark ↔ IsErrOf {T = A} (Err fault) Read → IsTrue mark ↔ (fault ≡ Read)
 as-fault mark fault marks = (λ set. (let same : Err fault ≡ Err Read = marks.0 set in cc), λ same. marks.1 (ap Err same))
-
-right-nil : (xs ys : List ℕ) → xs ++ ys ≡ [] → ys ≡ []
-right-nil [] ys is = is
-right-nil (x ∷ xs) ys is = absurd (let no : x ∷ (xs ++ ys) ≡ [] = is in cc)
-
--- all bytes were read, and these are their lines
-all-read : (before left : Option (List ℕ)) (buffer : List ℕ) (lines : List (List ℕ)) → Took before (prepend_known buffer left) lines → IsAtEnd (prepend_known buffer left)
-    → IfSome before (λ known. (lines_of known ≡ lines) × (left ≡ Some []))
-all-read None left buffer lines took end = tt
-all-read (Some xs) None buffer lines took end = absurd took
-all-read (Some xs) (Some ys) buffer lines took end =
-    (took ∙ ap (λ (bs : List ℕ). lines ++ lines_of bs) end ∙ append-nil lines, ap (λ (bs : List ℕ). Some bs) (right-nil buffer ys end))
 
 -- the block of a line
 block-of : (blocks k line : ℕ) → line ≡ blocks * block_jobs + k + 2 → k < block_jobs → (line - 2) / block_jobs ≡ blocks

@@ -6,8 +6,8 @@ use Rattle.zs_drive.specs.Values.{JobRecord}
 use Rattle.zs_run.specs.declared.plan_fault.PlanFault.{PlanFault}
 use Rattle.zs_run.specs.declared.plan_fault.PlanFault.TheVariants as faults
 use Rattle.zs_run.specs.Head.{HeadRecord, head_of, job_of_bytes}
-use Rattle.zs_population.specs.Lines.{lines_of}
-use Rattle.zs_population.specs.Buffers.{BeginsWith, Took}
+use Rattle.zs_lines.specs.Lines.{lines_of}
+use Rattle.zs_lines.specs.Buffers.{BeginsWith, Took}
 use Rattle.zs_population.specs.Ending.{WasRefused}
 use Rattle.zs_population.specs.Population.{Refusal, job_at, jobs_at, max_population, population_of, ◌>>=◌}
 use Rattle.zs_population.specs.Reads.{names_of}

@@ -1,5 +1,3 @@
-pub mod ByteLemmas
-pub mod LineLemmas
 pub mod JobsLemmas
 pub mod BlockLemmas
 pub mod Done

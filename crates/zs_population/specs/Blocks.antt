@@ -7,7 +7,7 @@ use Rattle.zs_agenda.specs.Ticks.{Ticks}
 use Rattle.zs_drive.specs.Values.{JobRecord}
 use Rattle.zs_run.specs.Names.{KnowsNames}
 use Rattle.zs_run.specs.PlanReport.{jobs_text, polls_of}
-use Rattle.zs_population.specs.Buffers.{Took}
+use Rattle.zs_lines.specs.Buffers.{Took}
 use Rattle.zs_population.specs.Population.{block_jobs, jobs_at}
 use Rattle.zs_population.specs.Reads.{names_of}
 

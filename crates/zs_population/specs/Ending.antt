@@ -6,7 +6,7 @@ use Rattle.zs_run.specs.Headline.{Reading, Writing}
 use Rattle.zs_run.specs.Plan.{PlanRecord}
 use Rattle.zs_run.specs.PlanReport.{jobs_text, report_of}
 use Rattle.zs_run.specs.declared.plan_fault.PlanFault.TheVariants as faults
-use Rattle.zs_population.specs.Lines.{lines_of}
+use Rattle.zs_lines.specs.Lines.{lines_of}
 use Rattle.zs_population.specs.Population.{Refusal, block_jobs, population_of}
 use Rattle.zs_population.specs.declared.fault.PopulationFault.{PopulationFault}
 use Rattle.zs_population.specs.declared.fault.PopulationFault.TheVariants.{Read, Line, Engine, Write}

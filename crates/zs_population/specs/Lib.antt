@@ -1,9 +1,7 @@
 -- What the clauses of callers name, and so what has to be believed.
-pub mod Lines
 pub mod Population
 pub mod Ending
 pub mod Status
 -- What the bodies store: private contracts alone name these.
-pub mod Buffers
 pub mod Reads
 pub mod Blocks

@@ -6,11 +6,11 @@ use Rattle.zs_drive.specs.Values.{JobRecord}
 use Rattle.zs_run.specs.Names.{KnowsNames}
 use Rattle.zs_run.specs.declared.plan_fault.PlanFault.{PlanFault}
 use Rattle.zs_run.specs.declared.plan_fault.PlanFault.TheVariants as faults
-use Rattle.zs_population.specs.Buffers.{BeginsWith, Took}
+use Rattle.zs_lines.specs.Buffers.{BeginsWith, Took}
 use Rattle.zs_population.specs.Ending.{WasRefused}
 use Rattle.zs_population.specs.Population.{Refusal, block_jobs, job_at, jobs_at}
-use Rattle.zs_population.specs.declared.buffer.LineFault.{LineFault}
-use Rattle.zs_population.specs.declared.buffer.LineFault.TheVariants as unread
+use Rattle.zs_lines.specs.declared.buffer.LineFault.{LineFault}
+use Rattle.zs_lines.specs.declared.buffer.LineFault.TheVariants as unread
 use Rattle.zs_population.specs.declared.fault.PopulationFault.{PopulationFault}
 use Rattle.zs_population.specs.declared.fault.PopulationFault.TheVariants.{Read, Line, Engine, Write}
 

@@ -8,11 +8,10 @@ ghost use Rattle.zs_run.specs.Names.{KnowsNames};
 ghost use Rattle.zs_run.specs.Plan.{max_jobs};
 ghost use Rattle.zs_run.specs.PlanReport.{jobs_text, polls_of, with_total};
 ghost use Rattle.zs_run.specs.PlanView.{plan_record};
-ghost use Rattle.zs_population.specs.Buffers.{Took};
+ghost use Rattle.zs_lines.specs.Buffers.{Took};
 ghost use Rattle.zs_population.specs.Population.{block_jobs, job_at, max_population};
 ghost use Rattle.zs_population.specs.Reads.{AddsJob, BlockFault, BlockReads, HeadFault, IsNoJob, line_fault_of};
 
-use crate::buffer::{Buffer, LineFault};
 use crate::fault::PopulationFault;
 use std::alloc::Global;
 use std::collections::BTreeSet;
@@ -20,6 +19,7 @@ use std::sync::Wait;
 use std::thread::Threads;
 use zs_drive::{Job, Keeping};
 use zs_engine::{EngineFault, run_keeping};
+use zs_lines::{Buffer, LineFault};
 use zs_pool::{Gate, MAX_TASKS};
 use zs_run::{
     Drain, Head, Plan, PlanFault, Source, add_job, append_jobs, append_total, read_head, read_job,
@@ -28,6 +28,9 @@ use zs_run::{
 
 /// The most jobs of a block: the most that a round may poll.
 pub(crate) const BLOCK: usize = MAX_TASKS as usize;
+
+// The most bytes of a line without its newline: the most of a plan.
+const MAX_LINE: usize = 16_777_216;
 
 // The most jobs of a population.
 const MAX_POPULATION: u64 = 1_000_000_000_000_000;
@@ -63,7 +66,7 @@ pub(crate) fn read_first<R: Source>(
     ensures marks { IsTrue (R.mark reader.new) ↔ IsErrOf result PopulationFault.Read }
 {
     let mut line = Vec::new(alloc);
-    match buffer.next_line(reader, &mut line) {
+    match buffer.next_line(reader, &mut line, MAX_LINE) {
         Ok(true) => {}
         Ok(false) => {
             return Err(PopulationFault::Line {
@@ -143,7 +146,7 @@ pub(crate) fn read_block<R: Source>(
     let mut line = Vec::new(alloc);
     while jobs.len() < BLOCK {
         let number = first + jobs.len() as u64;
-        match buffer.next_line(reader, &mut line) {
+        match buffer.next_line(reader, &mut line, MAX_LINE) {
             Ok(true) => {}
             Ok(false) => return Ok(jobs),
             Err(fault) => return Err(line_fault(number + 2, fault)),

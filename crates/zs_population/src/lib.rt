@@ -13,7 +13,6 @@
 #![tactic(auto)]
 
 mod block;
-mod buffer;
 mod fault;
 mod running;
 

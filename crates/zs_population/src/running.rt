@@ -3,16 +3,16 @@ ghost use Rattle.std.specs.Prelude.{◌≡◌, ◌∷◌, [], ℕ, List, Option,
 ghost use Rattle.std.specs.Io.KnownBytes.{prepend_known};
 ghost use Rattle.zs_run.specs.Head.{head_of};
 ghost use Rattle.zs_run.specs.HeadView.{head_record};
-ghost use Rattle.zs_population.specs.Buffers.{Took};
+ghost use Rattle.zs_lines.specs.Buffers.{Took};
 ghost use Rattle.zs_population.specs.Ending.{Ends};
 
 use crate::block::{BLOCK, read_block, read_first, run_block, write_block};
-use crate::buffer::Buffer;
 use crate::fault::PopulationFault;
 use std::alloc::Global;
 use std::collections::BTreeSet;
 use std::sync::Wait;
 use std::thread::Threads;
+use zs_lines::Buffer;
 use zs_pool::Gate;
 use zs_run::{Drain, Head, Source};
 

@@ -2,11 +2,11 @@ use Rattle.std.proofs.Common.{◌≡◌, ◌<◌, ◌+◌, ◌∷◌, [], ℕ, L
 use Rattle.std.specs.Io.KnownBytes.{prepend_known}
 use Rattle.std.proofs.lemmas.List.{length-map}
 use Rattle.zs_drive.specs.Values.{JobRecord, job_record}
-use Rattle.zs_population.specs.Buffers.{Took}
+use Rattle.zs_lines.specs.Buffers.{Took}
 use Rattle.zs_population.specs.Population.{block_jobs}
 use Rattle.zs_population.specs.Reads.{AddsJob}
 use Rattle.zs_population.proofs.BlockLemmas.{block-refused, block-unread, reads-more, reads-nothing}
-use Rattle.zs_population.proofs.LineLemmas.{clear-at-ok}
+use Rattle.zs_lines.proofs.LineLemmas.{clear-at-ok}
 use Rattle.zs_population.proofs.block.read_block.Goals as goal
 
 -- no line was taken

@@ -2,7 +2,7 @@ use Rattle.std.proofs.Common.{◌∷◌, [], List, ℕ, Option, refl}
 use Rattle.std.specs.Io.KnownBytes.{prepend_known}
 use Rattle.zs_population.proofs.BlockLemmas.{head-unread}
 use Rattle.zs_population.proofs.JobsLemmas.{head-refused, nothing-refused}
-use Rattle.zs_population.proofs.LineLemmas.{begins}
+use Rattle.zs_lines.proofs.LineLemmas.{begins}
 use Rattle.zs_population.proofs.block.read_first.Goals as goal
 
 -- there is no line

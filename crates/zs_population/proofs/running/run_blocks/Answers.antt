@@ -10,7 +10,7 @@ use Rattle.zs_run.specs.PlanReport.{jobs_text, polls_of, with_total}
 use Rattle.zs_population.specs.Population.{block_jobs}
 use Rattle.zs_population.proofs.Done.{done-nothing, more-done, text-begins, total-of}
 use Rattle.zs_population.proofs.Endings.{as-fault, ends-unread, ends-unrun, ends-unwritten, ends-well}
-use Rattle.zs_population.proofs.LineLemmas.{clear-at-ok}
+use Rattle.zs_lines.proofs.LineLemmas.{clear-at-ok}
 use Rattle.zs_population.proofs.running.run_blocks.Goals as goal
 
 -- no block yet

@@ -1,7 +1,7 @@
 use Rattle.std.proofs.Common.{◌≡◌, ◌+◌, ◌-◌, ◌++◌, ◌∷◌, ℕ, List, length, take, drop, arith, refl, sym, ap, ◌∙◌}
 use Rattle.std.proofs.lemmas.List.{drop-drop, drop_all}
-use Rattle.zs_population.proofs.ByteLemmas.{at-newline, one_line-before, one_line-nowhere, rest-is}
-use Rattle.zs_population.proofs.buffer.Buffer.take_piece.Goals as goal
+use Rattle.zs_lines.proofs.ByteLemmas.{at-newline, one_line-before, one_line-nowhere, rest-is}
+use Rattle.zs_lines.proofs.buffer.Buffer.take_piece.Goals as goal
 
 -- a newline was found
 pub returns-in_ok-extend_from_slice-in-Some-clause-ended : goal.returns-in_ok-extend_from_slice-in-Some-clause-ended

@@ -2,10 +2,9 @@
 use Rattle.std.proofs.Common.{◌≡◌, ◌<◌, ◌==◌, ℕ, List, [], ◌∷◌, ◌++◌, length, Bool, true, false, not, Ok, Err, Option, None, Some, refl, sym, ap, ◌∙◌, append_assoc, append-nil, length-append, arith}
 use Rattle.std.proofs.lemmas.Bool.{eqb-true}
 use Rattle.std.specs.Io.KnownBytes.{Consumes, IsAtEnd, prepend_known}
-use Rattle.std.specs.Prelude.{IsErrOf, IsTrue}
-use Rattle.zs_run.specs.Plan.{max_bytes}
-use Rattle.zs_population.specs.Lines.{begin_with, lines_of}
-use Rattle.zs_population.specs.Buffers.{BeginsWith, IsOneLine, LineRead, Took}
+use Rattle.std.specs.Prelude.{IfSome, IsErrOf, IsTrue}
+use Rattle.zs_lines.specs.Lines.{begin_with, lines_of}
+use Rattle.zs_lines.specs.Buffers.{BeginsWith, IsOneLine, LineRead, Took}
 
 -- ---- bytes
 
@@ -90,12 +89,12 @@ at_end None end = tt
 at_end (Some xs) end = end
 
 -- a line is longer than one may be
-pub too-long : (old left : Option (List ℕ)) (line : List ℕ) → IsOneLine line → max_bytes < length line → Consumes old left line
-    → (long : List ℕ) × (max_bytes < length long) × BeginsWith old (long ∷ [])
-too-long old left [] one above read = absurd (omega (arith, above))
-too-long None left (b ∷ bs) one above read = (b ∷ bs, above, tt)
-too-long (Some xs) None (b ∷ bs) one above read = absurd read
-too-long (Some xs) (Some ys) (b ∷ bs) one above read =
+pub too-long : (limit : ℕ) (old left : Option (List ℕ)) (line : List ℕ) → IsOneLine line → limit < length line → Consumes old left line
+    → (long : List ℕ) × (limit < length long) × BeginsWith old (long ∷ [])
+too-long limit old left [] one above read = absurd (omega (arith, above))
+too-long limit None left (b ∷ bs) one above read = (b ∷ bs, above, tt)
+too-long limit (Some xs) None (b ∷ bs) one above read = absurd read
+too-long limit (Some xs) (Some ys) (b ∷ bs) one above read =
     let w = lines-begun b bs ys one in
     (b ∷ bs ++ w.0, omega (arith, length-append (b ∷ bs) w.0), (w.1, ap lines_of read ∙ w.2))
 
@@ -104,10 +103,10 @@ not-true true not = absurd (not refl)
 not-true false not = refl
 
 -- the bytes ended: after a line, or when none remained
-pub ended : (old mid left : Option (List ℕ)) (line : List ℕ) (empty : Bool) → empty ≡ (length line == 0) → IsOneLine line
-    → Consumes old mid line → Consumes mid left [] → IsAtEnd left → LineRead (Ok (not empty)) old (prepend_known [] left) line
-ended old mid left [] empty is one first next end = rw is (took-none old mid left first next, at_end left end)
-ended old mid left (b ∷ bs) empty is one first next end =
+pub ended : (limit : ℕ) (old mid left : Option (List ℕ)) (line : List ℕ) (empty : Bool) → empty ≡ (length line == 0) → IsOneLine line
+    → Consumes old mid line → Consumes mid left [] → IsAtEnd left → LineRead limit (Ok (not empty)) old (prepend_known [] left) line
+ended limit old mid left [] empty is one first next end = rw is (took-none old mid left first next, at_end left end)
+ended limit old mid left (b ∷ bs) empty is one first next end =
     let some : (length (b ∷ bs) == 0) ≡ false = not-true (length (b ∷ bs) == 0) (λ e. let none : length (b ∷ bs) ≡ 0 = eqb-true (length (b ∷ bs)) 0 e in omega (arith, none)) in
     rw (is ∙ some) (took-last old mid left b bs one first next end)
 
@@ -140,3 +139,15 @@ pub begins : (a b : Option (List ℕ)) (lines : List (List ℕ)) → Took a b li
 begins None b lines read = tt
 begins (Some a) None lines read = absurd read
 begins (Some a) (Some b) lines read = (lines_of b, read)
+
+right-nil : (xs ys : List ℕ) → xs ++ ys ≡ [] → ys ≡ []
+right-nil [] ys is = is
+right-nil (x ∷ xs) ys is = absurd (let no : x ∷ (xs ++ ys) ≡ [] = is in cc)
+
+-- all bytes were read, and these are their lines
+pub all-read : (before left : Option (List ℕ)) (buffer : List ℕ) (lines : List (List ℕ)) → Took before (prepend_known buffer left) lines → IsAtEnd (prepend_known buffer left)
+    → IfSome before (λ known. (lines_of known ≡ lines) × (left ≡ Some []))
+all-read None left buffer lines took end = tt
+all-read (Some xs) None buffer lines took end = absurd took
+all-read (Some xs) (Some ys) buffer lines took end =
+    (took ∙ ap (λ (bs : List ℕ). lines ++ lines_of bs) end ∙ append-nil lines, ap (λ (bs : List ℕ). Some bs) (right-nil buffer ys end))

@@ -1,8 +1,7 @@
 use Rattle.std.proofs.Common.{◌≡◌, ◌<◌, ◌++◌, ℕ, List, Option, Ok, length, arith, rules, ap, ◌∙◌, ◌==◌, vec_len}
-use Rattle.zs_run.specs.Plan.{max_bytes}
 use Rattle.std.specs.Io.KnownBytes.{Consumes, prepend_known}
-use Rattle.zs_population.proofs.LineLemmas.{clear-at-ok, ended, filled, one_line-append, opened, too-long, took-ended}
-use Rattle.zs_population.proofs.buffer.Buffer.next_line.Goals as goal
+use Rattle.zs_lines.proofs.LineLemmas.{clear-at-ok, ended, filled, one_line-append, opened, too-long, took-ended}
+use Rattle.zs_lines.proofs.buffer.Buffer.next_line.Goals as goal
 
 -- the line is whole
 pub returns-in-Ok-true-clause-line : goal.returns-in-Ok-true-clause-line
@@ -13,15 +12,15 @@ returns-in-Ok-true-clause-line g c =
     rw w.2 (took-ended old left c.loop-line.line.items w.0 c.take_piece.new.self c.loop-line.invariant.1 w.1 (rw w.3 at c.loop-line.invariant.3))
 
 -- it is too long
-pub returns-then-len-gt-MAX_LINE-clause-line : goal.returns-then-len-gt-MAX_LINE-clause-line
-returns-then-len-gt-MAX_LINE-clause-line g c =
+pub returns-then-len-limit-clause-line : goal.returns-then-len-limit-clause-line
+returns-then-len-limit-clause-line g c =
     let w = c.in-Ok-false.ensures.open (ap Ok c.in-Ok-false.field-0-test) in
     let old : Option (List ℕ) = prepend_known c.args.self.now (g.R.Source.remaining c.args.reader.now) in
     let left : Option (List ℕ) = g.R.Source.remaining c.loop-line.reader in
     let line : List ℕ = c.loop-line.line.items ++ c.loop-line.self in
     let count : length c.take_piece.new.line.items ≡ length line = ap (λ (bs : List ℕ). length bs) w.1 in
-    let above : max_bytes < length line = omega (arith, count, c.len.ensures, c.if-len-gt-MAX_LINE.true, c.take_piece.new.line.ok.0) in
-    too-long old left line (one_line-append c.loop-line.line.items c.loop-line.self c.loop-line.invariant.1 w.0) above
+    let above : c.args.limit < length line = omega (arith, count, c.len.ensures, c.if-len-limit.true, c.take_piece.new.line.ok.0) in
+    too-long c.args.limit old left line (one_line-append c.loop-line.line.items c.loop-line.self c.loop-line.invariant.1 w.0) above
     (opened old left c.loop-line.line.items c.loop-line.self c.loop-line.invariant.3)
 
 -- the input has ended
@@ -36,7 +35,7 @@ returns-then-not-branch-clause-line g c =
     let read : Consumes old mid (before ++ c.loop-line.self) = opened old mid before c.loop-line.self c.loop-line.invariant.3 in
     let count : vec_len c.take_piece.new.line ≡ length c.take_piece.new.line.items = omega (arith, c.take_piece.new.line.ok.0) in
     let empty : c.is_empty.result ≡ (length (before ++ c.loop-line.self) == 0) = rw w.1 at (c.is_empty.ensures ∙ ap (λ n. n == 0) count) in
-    rw (none.0, w.1) (ended old mid left (before ++ c.loop-line.self) c.is_empty.result empty
+    rw (none.0, w.1) (ended c.args.limit old mid left (before ++ c.loop-line.self) c.is_empty.result empty
     (one_line-append before c.loop-line.self c.loop-line.invariant.1 w.0) read none.1 none.2)
 
 -- more bytes were read

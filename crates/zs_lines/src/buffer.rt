@@ -1,7 +1,7 @@
-//! The lines of a reader, one after another.
+//! Bytes that were read and not used yet, and the lines that they are.
 ghost use Rattle.std.specs.Prelude.{◌≡◌, ◌≤◌, ◌<◌, ◌+◌, ◌++◌, ◌∷◌, ◌↔◌, [], ℕ, List, Bool, Result, Ok, Err, length, true, false, IsErrOf, IsTrue};
 ghost use Rattle.std.specs.Io.KnownBytes.{Consumes, IsAtEnd, prepend_known};
-ghost use Rattle.zs_population.specs.Buffers.{IsOneLine, LineRead};
+ghost use Rattle.zs_lines.specs.Buffers.{IsOneLine, LineRead};
 
 use memchr::memchr;
 use std::alloc::{AllocError, Global};
@@ -11,15 +11,12 @@ use zs_run::Source;
 // The most bytes that one pull reads.
 const CHUNK: usize = 65_536;
 
-// The most bytes of a line without its newline: the most of a plan.
-const MAX_LINE: usize = 16_777_216;
-
 /// Why the next line can't be read.
 #[derive(Clone, Copy, Debug, Drop, PartialEq, Eq)]
-pub(crate) enum LineFault {
+pub enum LineFault {
     /// The reader failed.
     Read,
-    /// The line is longer than a plan may be.
+    /// The line is longer than a line may be.
     TooLong,
     /// Memory ran out.
     Memory,
@@ -27,14 +24,14 @@ pub(crate) enum LineFault {
 
 /// Bytes that were read and not used yet.
 #[derive(Drop)]
-pub(crate) struct Buffer {
+pub struct Buffer {
     bytes: Vec<u8>,
     from: usize,
 }
 
 impl Model for Buffer {
     ghost use Rattle.std.specs.Prelude.{◌≤◌, ℕ, List, drop, length};
-    ghost use Rattle.zs_population.specs.Buffers.{chunk};
+    ghost use Rattle.zs_lines.specs.Buffers.{chunk};
 
     ghost Value = { List ℕ };
 
@@ -45,7 +42,7 @@ impl Model for Buffer {
 
 impl Buffer {
     /// No bytes yet.
-    pub(crate) fn new(alloc: Global) -> Buffer
+    pub fn new(alloc: Global) -> Buffer
         ensures empty { result ≡ [] }
     {
         Buffer {
@@ -101,14 +98,16 @@ impl Buffer {
         }
     }
 
-    /// Moves the next line into `line`. Returns whether there was one.
-    pub(crate) fn next_line<R: Source>(
+    /// Moves the next line into `line`, without its newline. Returns whether there was one. Fails
+    /// if the line has more bytes than `limit`.
+    pub fn next_line<R: Source>(
         &mut self,
         reader: &mut R,
         line: &mut Vec<u8>,
+        limit: usize,
     ) -> Result<bool, LineFault>
         requires clear { R.mark reader.old ≡ false }
-        ensures line { LineRead result (prepend_known self.old (R.remaining reader.old))
+        ensures line { LineRead limit result (prepend_known self.old (R.remaining reader.old))
             (prepend_known self.new (R.remaining reader.new)) line.new.items }
         ensures marks { IsTrue (R.mark reader.new) ↔ IsErrOf result LineFault.Read }
     {
@@ -119,7 +118,7 @@ impl Buffer {
                 Ok(false) => {}
                 Err(AllocError) => return Err(LineFault::Memory),
             }
-            if line.len() > MAX_LINE {
+            if line.len() > limit {
                 return Err(LineFault::TooLong);
             }
             if !self.fill(reader)? {

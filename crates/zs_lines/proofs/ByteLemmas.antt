@@ -4,7 +4,7 @@ use Rattle.std.specs.Prelude.{slice_index}
 use Rattle.std.proofs.lemmas.Bool.{eqb-true}
 use Rattle.std.proofs.lemmas.List.{take-append-drop, get_or-take, length-take-le, length-drop, take_all}
 use Rattle.memchr.specs.Find.{Nowhere, Passes, is_byte}
-use Rattle.zs_population.specs.Buffers.{IsOneLine}
+use Rattle.zs_lines.specs.Buffers.{IsOneLine}
 
 not-true : (b : Bool) → (b ≡ true → ⊥) → b ≡ false
 not-true true not = absurd (not refl)

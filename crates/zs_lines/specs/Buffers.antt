@@ -1,10 +1,9 @@
 -- Bytes that were read and not used yet, and the lines that come next.
 use Rattle.std.specs.Prelude.{◌≡◌, ◌<◌, ℕ, List, [], ◌∷◌, ◌++◌, ◌==◌, length, Bool, true, false, ⊤, Option, None, Some, IfSome, Result, Ok, Err}
 use Rattle.std.specs.Io.KnownBytes.{IsAtEnd}
-use Rattle.zs_run.specs.Plan.{max_bytes}
-use Rattle.zs_population.specs.Lines.{lines_of}
-use Rattle.zs_population.specs.declared.buffer.LineFault.{LineFault}
-use Rattle.zs_population.specs.declared.buffer.LineFault.TheVariants.{Read, TooLong, Memory}
+use Rattle.zs_lines.specs.Lines.{lines_of}
+use Rattle.zs_lines.specs.declared.buffer.LineFault.{LineFault}
+use Rattle.zs_lines.specs.declared.buffer.LineFault.TheVariants.{Read, TooLong, Memory}
 
 -- how many bytes are read at a time, at most
 abbrev pub chunk : ℕ
@@ -25,11 +24,12 @@ Took (Some xs) (Some ys) lines = lines_of xs ≡ lines ++ lines_of ys
 abbrev pub BeginsWith : Option (List ℕ) → List (List ℕ) → Type 0
 BeginsWith known lines = IfSome known (λ xs. (rest : List (List ℕ)) × (lines_of xs ≡ lines ++ rest))
 
--- What `next_line` returns: whether there is a line, and which.
-abbrev pub LineRead : Result Bool LineFault → Option (List ℕ) → Option (List ℕ) → List ℕ → Type 0
-LineRead (Ok true) old new line = Took old new (line ∷ [])
-LineRead (Ok false) old new line = Took old new [] × IsAtEnd new
-LineRead (Err Read) old new line = ⊤
-LineRead (Err TooLong) old new line =
-    (long : List ℕ) × (max_bytes < length long) × BeginsWith old (long ∷ [])
-LineRead (Err Memory) old new line = ⊤
+-- What `next_line` returns: whether there is a line, and which; or that the next line has more
+-- bytes than the limit.
+abbrev pub LineRead : ℕ → Result Bool LineFault → Option (List ℕ) → Option (List ℕ) → List ℕ → Type 0
+LineRead limit (Ok true) old new line = Took old new (line ∷ [])
+LineRead limit (Ok false) old new line = Took old new [] × IsAtEnd new
+LineRead limit (Err Read) old new line = ⊤
+LineRead limit (Err TooLong) old new line =
+    (long : List ℕ) × (limit < length long) × BeginsWith old (long ∷ [])
+LineRead limit (Err Memory) old new line = ⊤

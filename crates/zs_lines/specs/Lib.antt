@@ -1,0 +1,3 @@
+-- What the clauses of callers name, and so what has to be believed.
+pub mod Lines
+pub mod Buffers
