@@ -1,0 +1,3 @@
+pub mod PolicyLemmas
+pub mod TextLemmas
+pub mod Endings

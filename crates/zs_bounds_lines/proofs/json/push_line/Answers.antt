@@ -1,0 +1,21 @@
+use Rattle.std.proofs.Common.{◌++◌, ℕ, List, codes}
+use Rattle.zs_bounds_lines.specs.BoundsLines.{range_text, steps_text, times_text}
+use Rattle.zs_bounds_lines.proofs.TextLemmas.{pushed}
+use Rattle.zs_bounds_lines.proofs.json.push_line.Goals as goal
+
+pub returns : goal.returns
+returns c =
+    let told = c.args.told.now in
+    let policy : List ℕ = codes "{\"policy\":\"" ++ c.args.policy.now ++ codes "\",\"attempt\":" in
+    let attempt : List ℕ = range_text c.args.attempt.least c.args.attempt.most in
+    let name : List ℕ = codes ",\"attempts\":" in
+    let attempts : List ℕ = range_text told.least told.most in
+    let times : List ℕ = times_text told in record {
+      text = pushed _ _ _ (policy ++ attempt ++ name ++ attempts ++ times) (steps_text told)
+          (pushed _ _ _ (policy ++ attempt ++ name ++ attempts) times
+          (pushed _ _ _ (policy ++ attempt ++ name) attempts
+          (pushed _ _ _ (policy ++ attempt) name (pushed _ _ _ policy attempt c.in_ok-write.ensures.bytes c.in_ok-push_range.ensures.text) c.in_ok-push_str.ensures.bytes)
+          c.in_ok-push_range-2.ensures.text)
+          c.in_ok-push_times.ensures.text)
+          c.in_ok-writeln.ensures.bytes;
+    }

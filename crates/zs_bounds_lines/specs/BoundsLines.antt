@@ -1,0 +1,59 @@
+-- What is written for some lines: for each policy a line of JSON with its bounds.
+use Rattle.std.specs.Prelude.{ℕ, List, [], ◌∷◌, ◌++◌, codes, Option, Some, None, Result, Ok, Err}
+use Rattle.std.specs.Fmt.{decimal}
+use Rattle.zs_term.specs.Schedule.{Schedule}
+use Rattle.zs_term.specs.Canonical.{canonical_text}
+use Rattle.zs_bounds.specs.BoundsOf.{bounds_of}
+use Rattle.zs_bounds.specs.declared.durations.Durations.{Durations}
+use Rattle.zs_bounds.specs.declared.told.Bounds.{Bounds}
+use Rattle.zs_bounds_lines.specs.Policies.{policy_of}
+use Rattle.zs_bounds_lines.specs.declared.fault.PolicyFault.{PolicyFault}
+use Rattle.zs_bounds_lines.specs.declared.options.Options.{Options}
+
+-- a number, or null if there is none
+abbrev pub limit_text : Option ℕ → List ℕ
+limit_text None = codes "null"
+limit_text (Some n) = decimal n
+
+-- the least and the most of something
+abbrev pub range_text : ℕ → Option ℕ → List ℕ
+range_text least most = codes "{\"least\":" ++ decimal least ++ codes ",\"most\":" ++ limit_text most ++ codes "}"
+
+-- the longest wait, all waits, and the longest run
+abbrev pub times_text : Bounds → List ℕ
+times_text b =
+    codes ",\"longest_wait\":" ++ decimal b.longest ++ codes ",\"total_wait\":" ++ limit_text b.total ++ codes ",\"longest_run\":" ++ limit_text b.longest_run
+
+-- the steps that were looked at, and the end of the line
+abbrev pub steps_text : Bounds → List ℕ
+steps_text b = codes ",\"steps_seen\":" ++ decimal b.seen ++ codes "}\n"
+
+-- the line of a policy with these durations of attempts and these bounds
+abbrev pub json_line : List ℕ → Durations → Bounds → List ℕ
+json_line policy d b =
+    codes "{\"policy\":\"" ++ policy ++ codes "\",\"attempt\":" ++ range_text d.least d.most ++ codes ",\"attempts\":" ++ range_text b.least b.most
+    ++ times_text b ++ steps_text b
+
+-- the line of a policy, as its canonical spelling, with the bounds of it
+abbrev pub bounds_line : Options → Schedule → List ℕ
+bounds_line options s = json_line (canonical_text s) options.attempt (bounds_of s options.attempt options.steps)
+
+-- what is written for a line: nothing if it has no policy
+abbrev pub line_text : Options → Result (Option Schedule) PolicyFault → Result (List ℕ) PolicyFault
+line_text options (Ok None) = Ok []
+line_text options (Ok (Some s)) = Ok (bounds_line options s)
+line_text options (Err fault) = Err fault
+
+infixl 10 ◌>>=◌
+-- what comes next, unless a line is rejected
+abbrev pub ◌>>=◌ : {A B : Type 0} → Result A PolicyFault → (A → Result B PolicyFault) → Result B PolicyFault
+(Ok x) >>= f = f x
+(Err e) >>= f = Err e
+
+-- what is written for lines, or the fault of the first line that is rejected
+unfoldable pub bounds_lines : Options → List (List ℕ) → Result (List ℕ) PolicyFault
+bounds_lines options [] = Ok []
+bounds_lines options (line ∷ lines) = do
+  text ← line_text options (policy_of line)
+  rest ← bounds_lines options lines
+  Ok (text ++ rest)

@@ -1,0 +1,7 @@
+-- What the clauses of callers name, and so what has to be believed.
+pub mod Policies
+pub mod BoundsLines
+pub mod Ending
+pub mod Status
+-- What the bodies store: private contracts alone name these.
+pub mod Steps

@@ -1,0 +1,64 @@
+//! Why a run over lines stopped, and the exit status for it.
+ghost use Rattle.std.specs.Prelude.{◌≡◌};
+ghost use Rattle.std.specs.Process.{exit_status};
+ghost use Rattle.zs_bounds_lines.specs.Status.{exit_status_of, status_of};
+
+use std::process::ExitCode;
+use thiserror::Error;
+use zs_term::TermFault;
+
+/// Why a line is no policy.
+#[derive(Clone, Copy, Debug, PartialEq, Eq, Error)]
+pub enum PolicyFault {
+    /// The bytes aren't UTF-8.
+    #[error("not UTF-8")]
+    NotUtf8,
+    /// The text is no schedule.
+    #[error(transparent)]
+    Term(TermFault),
+}
+
+/// Why a run stopped. Whole lines were written, unless the writer failed.
+#[derive(Clone, Copy, Debug, PartialEq, Eq, Error)]
+pub enum BoundsFault {
+    /// The reader failed.
+    #[error("read failed")]
+    Read,
+    /// A line is no policy.
+    #[error("line {line}: {fault}")]
+    Line {
+        /// The line, from 1. Each line counts, also one without a policy.
+        line: u64,
+        /// What is wrong with it.
+        fault: PolicyFault,
+    },
+    /// Memory ran out.
+    #[error("out of memory")]
+    Memory,
+    /// The writer failed. All lines of JSON before the last one went out whole.
+    #[error("write failed")]
+    Write,
+}
+
+/// The exit status of a program that ended by the fault: 2 for a rejected line, 3 if reading or
+/// writing failed, 4 without memory.
+pub fn status(fault: &BoundsFault) -> u8
+    ensures value { result ≡ status_of fault.now }
+{
+    match fault {
+        BoundsFault::Line { .. } => 2,
+        BoundsFault::Read | BoundsFault::Write => 3,
+        BoundsFault::Memory => 4,
+    }
+}
+
+/// The exit code of a program whose run ended so: 0 if all lines were read, else the status of the
+/// fault.
+pub fn exit_code(ended: &Result<(), BoundsFault>) -> ExitCode
+    ensures value { exit_status result ≡ exit_status_of ended.now }
+{
+    match ended {
+        Ok(()) => ExitCode::SUCCESS,
+        Err(fault) => ExitCode::from(status(fault)),
+    }
+}

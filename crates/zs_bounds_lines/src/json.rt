@@ -1,0 +1,79 @@
+//! Bounds as a line of JSON.
+ghost use Rattle.std.specs.Prelude.{◌≡◌, ◌++◌, OnOk, IfOk, string_bytes};
+ghost use Rattle.zs_term.specs.Schedule.{schedule_of};
+ghost use Rattle.zs_bounds_lines.specs.BoundsLines.{bounds_line, json_line, limit_text, range_text, times_text};
+
+use crate::options::Options;
+use std::alloc::{AllocError, Global};
+use zs_bounds::{Bounds, Durations, bounds};
+use zs_term::{Checked, write};
+
+// Appends a number, or null.
+fn push_limit(text: &mut String, limit: Option<u64>) -> Result<(), AllocError>
+    ensures text { OnOk result (string_bytes text.new ≡ string_bytes text.old ++ limit_text limit) }
+{
+    match limit {
+        Some(number) => write!(text, "{number}"),
+        None => text.push_str("null"),
+    }
+}
+
+// Appends the least and the most of something.
+fn push_range(text: &mut String, least: u64, most: Option<u64>) -> Result<(), AllocError>
+    ensures text { OnOk result
+        (string_bytes text.new ≡ string_bytes text.old ++ range_text least most) }
+{
+    write!(text, "{{\"least\":{least},\"most\":")?;
+    push_limit(text, most)?;
+    text.push_str("}")?;
+    Ok(())
+}
+
+// Appends the longest wait, all waits, and the longest run.
+fn push_times(text: &mut String, told: &Bounds) -> Result<(), AllocError>
+    ensures text { OnOk result
+        (string_bytes text.new ≡ string_bytes text.old ++ times_text told.now) }
+{
+    let longest = told.longest;
+    write!(text, ",\"longest_wait\":{longest},\"total_wait\":")?;
+    push_limit(text, told.total)?;
+    text.push_str(",\"longest_run\":")?;
+    push_limit(text, told.longest_run)?;
+    Ok(())
+}
+
+// Appends the line of a policy with these durations of attempts and these bounds.
+fn push_line(
+    text: &mut String,
+    policy: &str,
+    attempt: Durations,
+    told: &Bounds,
+) -> Result<(), AllocError>
+    ensures text { OnOk result
+        (string_bytes text.new ≡ string_bytes text.old ++ json_line policy.now attempt told.now) }
+{
+    write!(text, "{{\"policy\":\"{policy}\",\"attempt\":")?;
+    push_range(text, attempt.least, attempt.most)?;
+    text.push_str(",\"attempts\":")?;
+    push_range(text, told.least, told.most)?;
+    push_times(text, told)?;
+    let seen = told.seen;
+    writeln!(text, ",\"steps_seen\":{seen}}}")?;
+    Ok(())
+}
+
+/// The line of a policy with its bounds.
+pub(crate) fn line_of(
+    alloc: Global,
+    options: Options,
+    policy: &Checked,
+) -> Result<String, AllocError>
+    ensures text { IfOk result (λ text.
+        string_bytes text ≡ bounds_line options (schedule_of policy.now)) }
+{
+    let told = bounds(alloc, policy, options.attempt, options.steps)?;
+    let spelling = write(alloc, policy)?;
+    let mut text = String::new(alloc);
+    push_line(&mut text, spelling.as_str(), options.attempt, &told)?;
+    Ok(text)
+}

@@ -1,0 +1,12 @@
+//! What the bounds depend on beside the policy.
+
+use zs_bounds::Durations;
+
+/// What the bounds depend on beside the policy.
+#[derive(Clone, Copy, Debug, PartialEq, Eq)]
+pub struct Options {
+    /// How long each attempt takes.
+    pub attempt: Durations,
+    /// At most this number of steps of each policy is looked at.
+    pub steps: u64,
+}
