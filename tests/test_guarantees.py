@@ -34,8 +34,8 @@ def definitions_in(crate, cell):
 
 
 def test_each_crate_with_promises_has_a_table():
-    assert CRATES == ["zs_agenda", "zs_bounds", "zs_c", "zs_drive", "zs_effect", "zs_engine", "zs_job_bounds", "zs_pool",
-                      "zs_population", "zs_run", "zs_step", "zs_term"]
+    assert CRATES == ["zs_agenda", "zs_bounds", "zs_bounds_lines", "zs_c", "zs_drive", "zs_effect", "zs_engine",
+                      "zs_job_bounds", "zs_lines", "zs_pool", "zs_population", "zs_run", "zs_step", "zs_term"]
 
 
 @each_row
