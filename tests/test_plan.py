@@ -17,6 +17,7 @@ from reports import jobs_of
 from support import TOP, equal_jobs, examples, job, output_of, plan
 from zsched_tools import call_log, manifest
 from zsched_tools.command import Refused
+from zsched_tools.place import FaultAt
 from zsched_tools.plan import importing, placed, plan_text, policy_file, policy_plan
 from zsched_tools.plan.split import write_parts
 from zsched_tools.report import join, processes
@@ -176,6 +177,6 @@ def test_a_wrong_schedule_in_yaml_has_the_place_that_it_has_in_json(zsched, name
 
 def test_yaml_of_too_many_values_is_rejected():
     tenfold = [f"{after}: &{after} [{','.join([f'*{name}'] * 10)}]\n" for name, after in zip("abcdefghi", "bcdefghij")]
-    with mock.patch.object(policy_file, "MOST_VALUES", 1000), pytest.raises(placed.Wrong) as caught:
+    with mock.patch.object(policy_file, "MOST_VALUES", 1000), pytest.raises(FaultAt) as caught:
         policy_file.read_yaml("a: &a 1\n" + "".join(tenfold))
-    assert caught.value.args[0].what == "the file has more than 1000 values"
+    assert caught.value.cause.what == "the file has more than 1000 values"

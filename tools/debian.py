@@ -6,11 +6,10 @@ import os
 import pathlib
 import re
 import shutil
-import subprocess
 import textwrap
 
-from library_files import put
-from zsched_tools.command import Refused
+from library_files import put, ran
+from zsched_tools.command import Refused, version
 
 TOP = pathlib.Path(__file__).resolve().parent.parent
 LIBC = {"libc.so.6", "libm.so.6", "libpthread.so.0", "libdl.so.2", "ld-linux-x86-64.so.2", "ld-linux-aarch64.so.1"}
@@ -28,28 +27,19 @@ License: Apache-2.0
 """
 
 
-def ran(words, **more):
-    """Runs a program, and returns its output. Raises Refused if the program fails."""
-    ended = subprocess.run(words, capture_output=True, check=False, **more)
-    if ended.returncode:
-        raise Refused(f"{words[0]}: {ended.stderr.decode(errors='replace').strip()}")
-    return ended.stdout
-
-
 def newest():
-    """The newest release in CHANGELOG.md: its version, which is that of VERSION, its date, and the texts of its lines."""
-    version = (TOP / "VERSION").read_text().strip()
+    """The newest release in CHANGELOG.md: its date and the texts of its lines. Its version must be that of VERSION."""
     part = (TOP / "CHANGELOG.md").read_text().split("\n## ")[1]
     heading = re.match(r"(\S+) \((\d+-\d+-\d+)\)\n", part)
-    if heading is None or heading[1] != version:
-        raise Refused(f"CHANGELOG.md: the newest heading isn't that of version {version}: {part.splitlines()[0]}")
+    if heading is None or heading[1] != version():
+        raise Refused(f"CHANGELOG.md: the newest heading isn't that of version {version()}: {part.splitlines()[0]}")
     day = datetime.datetime.fromisoformat(heading[2]).replace(tzinfo=datetime.timezone.utc)
-    return version, day, [" ".join(line.split()) for line in re.findall(r"^- (.+(?:\n  .+)*)", part, re.M)]
+    return day, [" ".join(line.split()) for line in re.findall(r"^- (.+(?:\n  .+)*)", part, re.M)]
 
 
 def moment():
     """The date of all files, in seconds: SOURCE_DATE_EPOCH, or that of the newest release."""
-    return int(os.environ.get("SOURCE_DATE_EPOCH", newest()[1].timestamp()))
+    return int(os.environ.get("SOURCE_DATE_EPOCH", newest()[0].timestamp()))
 
 
 def maintainer():
@@ -59,20 +49,20 @@ def maintainer():
 
 def machine():
     """Debian's word for this kind of machine."""
-    return ran(["dpkg", "--print-architecture"]).decode().strip()
+    return ran(["dpkg", "--print-architecture"]).strip()
 
 
 def changelog(source):
     """Debian's changelog of a package: the newest release of CHANGELOG.md."""
-    version, day, lines = newest()
+    day, lines = newest()
     items = "\n".join(textwrap.fill(line, 78, initial_indent="  * ", subsequent_indent="    ") for line in lines)
-    return (f"{source} ({version}) unstable; urgency=medium\n\n{items}\n\n"
+    return (f"{source} ({version()}) unstable; urgency=medium\n\n{items}\n\n"
             f" -- {maintainer()}  {day.strftime('%a, %d %b %Y %H:%M:%S +0000')}\n")
 
 
 def libc_of(path):
     """The least version of the C library that the program needs. A need of another library is an error."""
-    headers = ran(["objdump", "-p", path]).decode()
+    headers = ran(["objdump", "-p", path])
     others = set(re.findall(r"^ +NEEDED +(\S+)", headers, re.M)) - LIBC
     if others:
         raise Refused(f"{path}: it needs libraries other than the C library: {', '.join(sorted(others))}")

@@ -3,7 +3,7 @@ import pathlib
 import re
 import subprocess
 
-from zsched_tools.command import Refused
+from zsched_tools.command import Refused, version
 
 TOP = pathlib.Path(__file__).resolve().parent.parent
 MADE = TOP / "crates" / "zsched_c" / "out"
@@ -52,18 +52,12 @@ endif()
 def ran(words, **more):
     """Runs a program, and returns its output. Raises Refused if the program fails."""
     try:
-        ended = subprocess.run([str(it) for it in words], stdout=subprocess.PIPE, stderr=subprocess.STDOUT, text=True,
-                               check=False, **more)
+        ended = subprocess.run([str(it) for it in words], capture_output=True, text=True, check=False, **more)
     except FileNotFoundError:
         raise Refused(f"{words[0]} isn't on this machine") from None
     if ended.returncode:
-        raise Refused(f"{words[0]}: {ended.stdout.strip()[-900:]}")
+        raise Refused(f"{words[0]}: {(ended.stderr or ended.stdout).strip()[-900:]}")
     return ended.stdout
-
-
-def version():
-    """The version of this tree."""
-    return (TOP / "VERSION").read_text(encoding="utf-8").strip()
 
 
 def symbols():

@@ -66,6 +66,12 @@ def version():
     return "unknown"
 
 
+def parser(tool, about, epilog=None):
+    """The parser of a command, which shows both texts as they are."""
+    return argparse.ArgumentParser(prog=tool, description=about, epilog=epilog,
+                                   formatter_class=argparse.RawDescriptionHelpFormatter)
+
+
 def add_version(parser):
     """Adds --version and --generate to a command's options."""
     from zsched_tools.generated import add_generate
@@ -77,6 +83,20 @@ def add_color(parser):
     """Adds --color to a command's options."""
     parser.add_argument("--color", choices=["auto", "always", "never"], default="auto", metavar="WHEN",
                         help="colours: auto (on a terminal, unless NO_COLOR is set), always or never")
+
+
+def complete(parser):
+    """The parser of a command, with the options that all commands have."""
+    add_color(parser)
+    add_version(parser)
+    return parser
+
+
+def script(parser, work):
+    """Runs a script whose command line the parser reads. Returns its exit status."""
+    add_version(parser)
+    given = parser.parse_args()
+    return run(parser.prog, lambda: work(given))
 
 
 class Paint:
@@ -94,10 +114,10 @@ class Paint:
 def forms(tool, description, epilog, metavar):
     """The parser of a command of several forms, and what adds a form, by `add_parser`."""
     made = functools.partial(argparse.ArgumentParser, epilog=epilog, formatter_class=argparse.RawDescriptionHelpFormatter)
-    parser = made(prog=tool, description=description)
-    add_version(parser)
-    add_color(parser)
-    return parser, parser.add_subparsers(required=True, metavar=metavar, parser_class=made)
+    whole = made(prog=tool, description=description)
+    add_version(whole)
+    add_color(whole)
+    return whole, whole.add_subparsers(required=True, metavar=metavar, parser_class=made)
 
 
 def number(least, most, words):

@@ -44,6 +44,13 @@ def root(width, height, label, is_file=True):
     return f'<svg {kind}width="{width}" height="{height}" viewBox="0 0 {width} {height}" role="img" aria-label="{html.escape(label)}">'
 
 
+def opening(width, height, label, style, is_file=True, patterns=""):
+    """The first lines of a picture: its size, its styles, and its background."""
+    yield root(width, height, label, is_file)
+    yield f"<style>{style}</style>" + (f"\n<defs>{patterns}</defs>" if patterns else "")
+    yield f'<rect class="page" width="{width}" height="{place(height)}"/>'
+
+
 def rectangle(left, top, right, bottom, style, title=None, corner=0.0):
     """A filled rectangle of one of the styles."""
     rounded = f' rx="{place(corner)}"' if corner else ""

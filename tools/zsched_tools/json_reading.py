@@ -4,7 +4,7 @@ One regular expression matches a run of flat parts. All other parts are read one
 import re
 
 from zsched_tools import not_json
-from zsched_tools.place import Cause
+from zsched_tools.place import Cause, FaultAt
 from zsched_tools.positions import COLON, SPACE, W, maybe, run_of
 
 MAX_DEPTH = 127
@@ -28,16 +28,12 @@ _ITEMS = re.compile(run_of(f"{_FLAT}{W},{W}"))
 _MEMBERS = re.compile(run_of(f"{_STRING}{W}:{W}{_FLAT}{W},{W}"))
 
 
-class NotJson(Exception):
-    """The text is not a JSON document. The argument is the Cause."""
-
-
 def fault_of(text):
     """The Cause if a text is not a JSON document, else None."""
     try:
         Reading(text).read()
-    except NotJson as found:
-        return found.args[0]
+    except FaultAt as fault:
+        return fault.cause
     return None
 
 
@@ -49,13 +45,13 @@ class Reading:
         self.open = []
 
     def read(self):
-        """Reads the value of the whole text; raises NotJson."""
+        """Reads the value of the whole text; raises FaultAt."""
         begin = self.skip(0)
         if begin == len(self.text) or self.text.startswith("\ufeff"):
-            raise NotJson(not_json.no_plan(self.text))
+            raise FaultAt(not_json.no_plan(self.text))
         rest = self.skip(self.end_of(begin))
         if rest < len(self.text):
-            raise NotJson(not_json.more_text(self.text, rest))
+            raise FaultAt(not_json.more_text(self.text, rest))
 
     def skip(self, at):
         """The place after the white space."""
@@ -72,9 +68,9 @@ class Reading:
         """The end of a number that may be too large for a float."""
         number = _NUMBER.match(self.text, at)
         if not number:
-            raise NotJson(not_json.no_value(self, at))
+            raise FaultAt(not_json.no_value(self, at))
         if float(number[0]) in (float("inf"), float("-inf")):
-            raise NotJson(not_json.too_large(at, number.end()))
+            raise FaultAt(not_json.too_large(at, number.end()))
         return number.end()
 
     def end_of_container(self, at):
@@ -82,7 +78,7 @@ class Reading:
         text, is_object = self.text, self.text[at] == "{"
         closing, run = ("}", _MEMBERS) if is_object else ("]", _ITEMS)
         if len(self.open) == MAX_DEPTH:
-            raise NotJson(Cause(at, 1, f"this is nested deeper than {MAX_DEPTH}", "a plan has five levels"))
+            raise FaultAt(Cause(at, 1, f"this is nested deeper than {MAX_DEPTH}", "a plan has five levels"))
         self.open.append(at)
         here = self.skip(at + 1)
         is_done = text[here:here + 1] == closing
@@ -94,7 +90,7 @@ class Reading:
             is_done = text[here:here + 1] == closing
             if not is_done:
                 if text[here:here + 1] != ",":
-                    raise NotJson(not_json.no_comma(self, end, here))
+                    raise FaultAt(not_json.no_comma(self, end, here))
                 here = self.skip(here + 1)
         self.open.pop()
         return here + 1
@@ -103,8 +99,8 @@ class Reading:
         """The place of the value whose key begins here."""
         key = _KEY.match(self.text, at)
         if not key:
-            raise NotJson(not_json.no_key(self, at))
+            raise FaultAt(not_json.no_key(self, at))
         colon = COLON.match(self.text, key.end())
         if not colon:
-            raise NotJson(not_json.no_colon(self, at, key.end()))
+            raise FaultAt(not_json.no_colon(self, at, key.end()))
         return colon.end()

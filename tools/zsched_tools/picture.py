@@ -4,7 +4,7 @@ from dataclasses import dataclass
 from zsched_tools import strip
 from zsched_tools.bars import Shapes, draw_shape, mark
 from zsched_tools.command import Refused
-from zsched_tools.drawing import (Scale, View, cut_text, labels, path, place, rectangle, root, shown_moments, text,
+from zsched_tools.drawing import (Scale, View, cut_text, labels, opening, path, place, rectangle, shown_moments, text,
                                   text_width)
 from zsched_tools.reports import Ending, Job
 from zsched_tools.words import duration, ending_text, plural
@@ -246,11 +246,8 @@ def draw(rows, title, view=View(), is_file=True):
     """The picture of some jobs as SVG, in lines: for a file, or inside of a page."""
     layout = Layout(rows, title, view)
     entries, height = legend(layout, rows)
-    tall = place(layout.foot + height)
-    yield root(WIDTH, layout.foot + height, title or "Timeline of a report of zsched", is_file)
-    yield f"<style>{STYLE}</style>"
-    yield f"<defs>{PATTERNS}</defs>"
-    yield f'<rect class="page" width="{WIDTH}" height="{tall}"/>'
+    label = title or "Timeline of a report of zsched"
+    yield from opening(WIDTH, layout.foot + height, label, STYLE, is_file, PATTERNS)
     if title:
         yield text(MARGIN, 27, cut_text(title, TITLE_SIZE * 1.1, WIDTH - 2 * MARGIN), "title")
     if rows:

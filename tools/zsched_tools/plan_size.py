@@ -128,26 +128,14 @@ def _attempts(job, clock):
 
 def _bound(text, world):
     """The bound of a schedule in a World."""
-    waiting, operators = [], []
-    for piece in schedule_rules.pieces(text):
-        if piece.word == "(":
-            continue
-        if piece.word in schedule_rules.OPERATORS:
-            operators.append(piece.word)
-        elif piece.word == ")":
-            right, left = waiting.pop(), waiting.pop()
-            waiting.append(_joined(operators.pop(), left, right))
-        elif piece.word in schedule_rules.LEAVES:
-            numbers = [int(argument[0]) for argument in piece.arguments if argument[0].isdigit()]
-            waiting.append(_leaf(piece.word, numbers, world))
-        else:
-            waiting.append(_behind(piece, waiting.pop(), world))
-    return waiting.pop()
+    return schedule_rules.folded(
+        text, lambda piece: _leaf(piece, world), _joined, lambda piece, part: _behind(piece, part, world))
 
 
-def _leaf(word, numbers, world):
+def _leaf(piece, world):
     """The bound of a leaf. Waits that grow pass the time after few attempts."""
-    first, time = numbers[0] if numbers else 0, world.time
+    numbers = [int(argument[0]) for argument in piece.arguments if argument[0].isdigit()]
+    word, first, time = piece.word, numbers[0] if numbers else 0, world.time
     if word == "recurs":
         return Bound(first + 1, 0, "count")
     if word == "spaced":

@@ -57,11 +57,16 @@ def find_bounds(named=None):
     return find_beside("zsched-bounds", named)
 
 
+def job_text(name, schedule, entries, mode="retry", start=None):
+    """A job, as JSON. `entries` is the text of its script's entries."""
+    start = "" if start is None else f'"start":{start},'
+    text = json.dumps(schedule, ensure_ascii=False)
+    return f'{{"name":"{name}","mode":"{mode}","schedule":{text},{start}"script":[{entries}]}}'
+
+
 def one_job(horizon, schedule, entry):
     """The bytes of a plan with a job whose attempts all end as an entry says."""
-    text = json.dumps(schedule, ensure_ascii=False)
-    return (f'{{"horizon":{horizon},"jobs":[{{"name":"job","mode":"retry","schedule":{text},"script":[{entry}]}}]}}'
-            ).encode()
+    return f'{{"horizon":{horizon},"jobs":[{job_text("job", schedule, entry)}]}}'.encode()
 
 
 def cut_plans(clock, jobs, most=None):

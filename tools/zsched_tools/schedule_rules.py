@@ -3,7 +3,7 @@ from typing import NamedTuple
 
 from zsched_tools import schedule_text
 from zsched_tools.hints import LEAVES, OPERATORS, said
-from zsched_tools.place import Cause
+from zsched_tools.place import Cause, FaultAt
 from zsched_tools.schedule_text import TOKEN
 
 MAX_DEPTH = 64
@@ -17,10 +17,6 @@ class Piece(NamedTuple):
     at: int
     end: int
     arguments: list
-
-
-class NoKind(Exception):
-    """A pick or a function doesn't fit. Its argument is the Cause."""
 
 
 def pieces(text):
@@ -41,6 +37,23 @@ def pieces(text):
             end = waiting.end()
             waiting = next(tokens, None)
         yield Piece(token[0], token.start(), end, arguments)
+
+
+def folded(text, leaf, joined, behind):
+    """The value of a schedule without faults of spelling: `leaf` gives that of a leaf, `joined` that of an operator and
+    two values, `behind` that of a method and the value before it."""
+    values, operators = [], []
+    for piece in pieces(text):
+        if piece.word in OPERATORS:
+            operators.append(piece.word)
+        elif piece.word in LEAVES:
+            values.append(leaf(piece))
+        elif piece.word == ")":
+            right, left = values.pop(), values.pop()
+            values.append(joined(operators.pop(), left, right))
+        elif piece.word != "(":
+            values.append(behind(piece, values.pop()))
+    return values.pop()
 
 
 def cause_of(text, fault):
@@ -94,34 +107,24 @@ def _too_big(text):
 
 
 def _no_kind(text):
-    """The cause at the first pick or function that doesn't fit, or None. The kinds of the parts so far are in a
-    list."""
-    kinds, operators = [], []
+    """The cause at the first pick or function that doesn't fit, or None."""
     try:
-        for piece in pieces(text):
-            if piece.word in OPERATORS:
-                operators.append(piece.word)
-            elif piece.word in LEAVES:
-                kinds.append(NUMBER)
-            elif piece.word == ")":
-                right, left = kinds.pop(), kinds.pop()
-                kinds.append(("sum" if operators.pop() == "andThenEither" else "pair", left, right))
-            elif piece.word != "(":
-                kinds.append(_behind(piece, kinds.pop()))
-    except NoKind as found:
-        return found.args[0]
+        folded(text, lambda _: NUMBER, lambda operator, *parts: (
+            "sum" if operator == "andThenEither" else "pair", *parts), _behind)
+    except FaultAt as fault:
+        return fault.cause
     return None
 
 
 def _behind(piece, kind):
-    """The kind of a schedule of a kind with a method; raises NoKind."""
+    """The kind of a schedule of a kind with a method; raises FaultAt."""
     first = piece.arguments[0][0] if piece.arguments else ""
     is_pick, is_tested = first in ("_1", "_2"), piece.word in ("whileOutput", "resetWhen")
 
     def refuse(is_wrong, what, help, **values):
         if is_wrong:
             values = {"first": first, "kind": said(kind[0]), **values}
-            raise NoKind(Cause(piece.at, piece.end - piece.at, *(said(it, **values) for it in (what, help))))
+            raise FaultAt(Cause(piece.at, piece.end - piece.at, *(said(it, **values) for it in (what, help))))
     if piece.word == "collectAll":
         return ("list", kind)
     if piece.word == "whileInput":

@@ -2,7 +2,7 @@
 
 from zsched_tools import picture
 from zsched_tools.command import Refused
-from zsched_tools.drawing import (NEAREST_LABELS, Scale, View, cut_text, labels, path, place, rectangle, root,
+from zsched_tools.drawing import (NEAREST_LABELS, Scale, View, cut_text, labels, opening, path, place, rectangle,
                                   round_numbers, step_between_labels, steps_to, text, text_width, titled)
 from zsched_tools.load import Load
 from zsched_tools.reports import Attempt, records
@@ -142,11 +142,8 @@ def draw_strip(load, title, note=None, view=View(), width=None):
     found, base = labels(scale)
     top = 16 + (30 if title else 0) + (20 if note else 0) + (18 if base else 0)
     bottom = _lines(top, ALONE)[1] + 8
-    tall = place(bottom + 34)
-    yield root(width, bottom + 34, title or "Load of a report of zsched", is_file)
-    yield f"<style>{picture.STYLE}</style>"
-    yield f"<defs>{picture.PATTERNS}</defs>"
-    yield f'<rect class="page" width="{width}" height="{tall}"/>'
+    label = title or "Load of a report of zsched"
+    yield from opening(width, bottom + 34, label, picture.STYLE, is_file, picture.PATTERNS)
     if title:
         yield text(LEFT, 27, cut_text(title, picture.TITLE_SIZE * 1.1, width - 2 * LEFT), "title")
     if note:

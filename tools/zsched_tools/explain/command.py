@@ -54,9 +54,7 @@ def words():
     count = command.number(1, 10000, "{} isn't a number from 1 to 10000")
     found.add_argument("--most", type=count, default=MOST_FAULTS, metavar="N",
                        help=f"how many faults --all shows at most ({MOST_FAULTS})")
-    command.add_color(found)
-    command.add_version(found)
-    return found
+    return command.complete(found)
 
 
 def _explain(taken):

@@ -1,5 +1,4 @@
 """The command zsched-follows: whether a service's attempts, as its log has them, follow a policy."""
-import argparse
 import sys
 
 from zsched_tools import call_log, command, drawn, program, starting
@@ -10,7 +9,6 @@ from zsched_tools.follows.compared import compared
 from zsched_tools.words import WIDTH, shown
 
 TOOL = "zsched-follows"
-DIFFERS = 1
 DESCRIPTION = """Says whether a service follows its retry policy: compares each attempt of a log with what the policy
 decides.
 
@@ -58,18 +56,17 @@ def work(given):
     found = compared(log.calls, given.schedule, given.mode, given.tolerance, given.zsched)
     if given.json:
         print(found.json())
-        return DIFFERS if found.differences else 0
+        return command.NO if found.differences else 0
     paint = command.Paint(given.color, sys.stdout)
     for difference in found.differences:
         print(shown(difference.line(), 10 * WIDTH))
     print(paint("bad" if found.differences else "good", found.summary()))
-    return DIFFERS if found.differences else 0
+    return command.NO if found.differences else 0
 
 
 def arguments():
     """The parser of the command line."""
-    form = argparse.RawDescriptionHelpFormatter
-    parser = argparse.ArgumentParser(prog=TOOL, description=DESCRIPTION, epilog=EPILOG, formatter_class=form)
+    parser = command.parser(TOOL, DESCRIPTION, EPILOG)
     parser.add_argument("log", metavar="LOG", help="the log's file; - for standard input")
     parser.add_argument("--schedule", metavar="S", required=True, help="the policy: a schedule")
     parser.add_argument("--mode", choices=["retry", "repeat"], default="retry",
@@ -79,9 +76,7 @@ def arguments():
     parser.add_argument("--json", action="store_true", help="print one object")
     call_log.add_options(parser.add_argument_group("columns"))
     parser.add_argument("--zsched", metavar="PATH", help="the program (ZSCHED, the built or the installed one)")
-    command.add_color(parser)
-    command.add_version(parser)
-    return parser
+    return command.complete(parser)
 
 
 main = starting.command(TOOL, arguments, work)

@@ -15,7 +15,7 @@ from typing import NamedTuple
 from zsched_tools.call_log import by_request, in_ms
 from zsched_tools.command import Refused
 from zsched_tools.outage.search import ATTEMPTS_OF_PLAN, MOST_ATTEMPTS
-from zsched_tools.program import LAST_MOMENT, MOST_ENTRIES, cut_plans, run_plan
+from zsched_tools.program import LAST_MOMENT, MOST_ENTRIES, cut_plans, job_text, run_plan
 from zsched_tools.reports import blocks_of
 from zsched_tools.schedule_rules import MAX_DEPTH, MAX_WEIGHT, cause_of
 from zsched_tools.words import duration, plural
@@ -164,8 +164,7 @@ class Decisions:
     def _blocks(self, clock, jobs, most=None):
         """The jobs' reports on a clock. A job is its schedule and its script."""
         mode = "retry" if self.word == "err" else "repeat"
-        texts = [f'{{"name":"{at}","mode":"{mode}","schedule":{json.dumps(schedule)},"script":[{",".join(script)}]}}'
-                 for at, (schedule, script) in enumerate(jobs)]
+        texts = [job_text(at, schedule, ",".join(script), mode) for at, (schedule, script) in enumerate(jobs)]
         for plan in cut_plans(clock, texts, most)[0] if jobs else ():
             yield from blocks_of(run_plan(self.zsched, plan))
 

@@ -5,7 +5,7 @@ import random
 import sys
 
 from zsched_tools import command, plan_size, program, starting, words
-from zsched_tools.command import REFUSED, Paint, Refused, add_color, add_version
+from zsched_tools.command import REFUSED, Paint, Refused
 from zsched_tools.drawn import LOW
 from zsched_tools.durations import duration_argument
 from zsched_tools.outage.certificate import Uncertified, certified
@@ -21,7 +21,6 @@ from zsched_tools.schedule_rules import any_cause
 from zsched_tools.words import duration, plural
 
 TOOL = "zsched-outage"
-EXCEEDED = 1
 MOST_PASSES = 50
 DESCRIPTION = """Simulates many clients, each with a retry policy, in an outage: a service that is down, slow or full.
 Prints a table with a column for each policy: attempts, peaks of load, times to success, and the number of clients that
@@ -244,13 +243,13 @@ def work(given):
         return _wrong(name, data.decode(errors="replace"), fault.cause, Paint(given.color, sys.stderr))
     except (Unsettled, Uncertified) as failed:
         print(f"{TOOL}: {failed}", file=sys.stderr)
-        return 1
+        return command.NO
     _print(given, scenario, figures)
     exceeded = [f"{TOOL}: policy {name}: {words}" for name, it in figures.items() for words in _exceeded(given, it)]
     sys.stdout.flush()
     for line in exceeded:
         print(line, file=sys.stderr)
-    return EXCEEDED if exceeded else 0
+    return command.NO if exceeded else 0
 
 
 def _wrong(name, text, cause, paint):
@@ -274,8 +273,7 @@ def _peak(word):
 
 def arguments():
     """The parser of the command line."""
-    form = argparse.RawDescriptionHelpFormatter
-    parser = argparse.ArgumentParser(prog=TOOL, description=DESCRIPTION, epilog=EPILOG, formatter_class=form)
+    parser = command.parser(TOOL, DESCRIPTION, EPILOG)
     parser.add_argument("scenario", metavar="SCENARIO.json", help="the scenario's file; - for standard input")
     parser.add_argument("-o", dest="folder", metavar="FOLDER",
                         help="a new or empty folder for plans, reports and curves")
@@ -292,9 +290,7 @@ def arguments():
     parser.add_argument("--passes", type=passes, default=MOST_PASSES, metavar="N",
                         help=f"the most passes before the certificate ({MOST_PASSES})")
     parser.add_argument("--zsched", metavar="PATH", help="the program (ZSCHED, the built or the installed one)")
-    add_color(parser)
-    add_version(parser)
-    return parser
+    return command.complete(parser)
 
 
 main = starting.command(TOOL, arguments, work)

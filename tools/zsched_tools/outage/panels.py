@@ -5,7 +5,7 @@ A page has the picture in two widths, of which it shows the one that fits, and t
 from elsewhere."""
 import html
 
-from zsched_tools.drawing import Scale, cut_text, labels, path, place, rectangle, root, steps_to, text, text_width
+from zsched_tools.drawing import Scale, cut_text, labels, opening, path, place, rectangle, steps_to, text, text_width
 from zsched_tools.outage.curve import headline, policy_lines, state_words, table
 from zsched_tools.outage.scenario import DOWN, THOUSAND
 from zsched_tools.words import WIDTH, duration, shown
@@ -220,9 +220,7 @@ def draw_curves(scenario, figures, width=960, is_file=True):
     """The picture as SVG, in lines: for a file, or inside of a page."""
     layout = Layout(scenario, figures, width)
     legend, height = _legend(layout)
-    yield root(width, height, headline(scenario), is_file)
-    yield f"<style>{STYLE}</style>"
-    yield f'<rect class="page" width="{width}" height="{place(height)}"/>'
+    yield from opening(width, height, headline(scenario), STYLE, is_file)
     for number, words in enumerate(layout.title):
         yield text(MARGIN, 26 + 18 * number, words, "title")
     for number, name in enumerate(figures):

@@ -7,13 +7,12 @@ more: `certificate` compares that report with the scenario.
 
 A script has at most 1,000 entries, and the last one repeats. A client of more attempts is run so, and only up to a moment.
 It can be certified if all its attempts from the 1,000th on end alike."""
-import json
 import random
 from array import array
 
 from zsched_tools.outage.scenario import DOWN
 from zsched_tools.outage.world import CUT, DENIED, DONE, GOES_ON, UNDENIED, Run, Walk
-from zsched_tools.program import MOST_ENTRIES, MOST_JOBS, cut_plans, run_plan
+from zsched_tools.program import MOST_ENTRIES, MOST_JOBS, cut_plans, job_text, run_plan
 from zsched_tools.reports import attempts_in, blocks_of, ending_in
 
 # The most attempts of a policy, and about how many a plan makes of clients with many.
@@ -63,22 +62,20 @@ class Search:
 
     def __init__(self, scenario, zsched, schedules, most_passes):
         self.scenario, self.zsched, self.most_passes = scenario, zsched, most_passes
-        self.heads = [f'{{"name":"{name_of(client)}","mode":"retry","schedule":{json.dumps(schedule)},"start":{start}'
-                      for client, (schedule, start) in enumerate(zip(schedules, scenario.starts))]
-        self.runs = [None] * len(self.heads)
+        self.schedules, self.runs = schedules, [None] * len(schedules)
         self.scripts = {}
         self.passes = self.until = 0
 
     def settle(self, say):
         """The walk over the settled runs. `say` is called at each step, with the share of the clients that are settled
         and a line."""
-        are_open, guesses = range(len(self.heads)), [b""] * len(self.heads)
+        are_open, guesses = range(len(self.runs)), [b""] * len(self.runs)
         while self.passes < self.most_passes:
             self.passes += 1
-            say(1 - len(are_open) / len(self.heads), f"pass {self.passes}, {len(are_open):,} clients")
+            say(1 - len(are_open) / len(self.runs), f"pass {self.passes}, {len(are_open):,} clients")
             self._look(are_open, guesses)
             walk = Walk(self.scenario, self.runs)
-            are_open = [client for client in range(len(self.heads)) if not walk.is_settled(client)]
+            are_open = [client for client in range(len(self.runs)) if not walk.is_settled(client)]
             if not are_open:
                 return walk
             for client in are_open:
@@ -123,7 +120,7 @@ class Search:
                 self.runs[client] = run
 
     def _job(self, client, entries):
-        return f'{self.heads[client]},"script":[{entries}]}}'
+        return job_text(name_of(client), self.schedules[client], entries, start=self.scenario.starts[client])
 
     def _script(self, kinds):
         """The entries of a script with these kinds."""

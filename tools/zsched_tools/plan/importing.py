@@ -15,9 +15,9 @@ from zsched_tools.command import Refused, write
 from zsched_tools.drawn import check_schedule
 from zsched_tools.durations import exact_milliseconds
 from zsched_tools.outage.scenario import Outcome
-from zsched_tools.place import line_of, told
+from zsched_tools.place import FaultAt, line_of, told
 from zsched_tools.plan import windows
-from zsched_tools.plan.placed import Written, Wrong
+from zsched_tools.plan.placed import Written
 from zsched_tools.plan.policy_file import read_toml, read_yaml
 from zsched_tools.plan.policy_plan import Names, is_allowed, plan_of, whole
 from zsched_tools.program import LAST_MOMENT, MOST_ENTRIES, MOST_JOBS
@@ -212,8 +212,8 @@ def _of_policies(given, read):
     try:
         root = plan_of(read(source.text), HOUR if given.until is None else given.until, notes)
         plan = Written(root)
-    except Wrong as wrong:
-        raise source.refused(wrong.args[0]) from None
+    except FaultAt as fault:
+        raise source.refused(fault.cause) from None
     jobs = root.data.get("jobs")
     count = len(jobs.data) if jobs is not None and isinstance(jobs.data, list) else 0
     if count <= MOST_JOBS and len(plan.text.encode()) <= program.MAX_BYTES:

@@ -4,7 +4,7 @@ import json
 import re
 from typing import NamedTuple
 
-from zsched_tools.place import Cause
+from zsched_tools.place import Cause, FaultAt
 
 DEEPEST = 20
 _HALF_OF_A_PAIR = re.compile("[\ud800-\udfff]")
@@ -30,10 +30,6 @@ class Value(NamedTuple):
     def part(self, begin, end):
         """The place and size of a part of a text, or of the text if its parts have no places."""
         return (self.at, 1) if self.inside is None else (self.inside + begin, end - begin)
-
-
-class Wrong(Exception):
-    """A file can't become a plan. The argument is the Cause, in the file's text."""
 
 
 def _json(data):
@@ -76,7 +72,7 @@ class Written:
 
     def _value(self, value, depth, between=","):
         if depth == DEEPEST:
-            raise Wrong(Cause(value.at, 1, f"this is nested deeper than {DEEPEST}"))
+            raise FaultAt(Cause(value.at, 1, f"this is nested deeper than {DEEPEST}"))
         if isinstance(value.data, dict):
             self._table(value, depth)
         elif isinstance(value.data, list):

@@ -5,8 +5,8 @@ searches the lines for headers and keys. A value that isn't found has the place 
 import re
 import tomllib
 
-from zsched_tools.place import Cause, line_of
-from zsched_tools.plan.placed import DEEPEST, Raw, Value, Wrong, key
+from zsched_tools.place import Cause, FaultAt, line_of
+from zsched_tools.plan.placed import DEEPEST, Raw, Value, key
 from zsched_tools.policy.reading import yaml_module
 from zsched_tools.words import shown
 
@@ -34,15 +34,15 @@ def read_yaml(text):
         loader = yaml.SafeLoader(text)
         node = loader.get_single_node()
         if node is None:
-            raise Wrong(Cause(0, 0, "the file is empty"))
+            raise FaultAt(Cause(0, 0, "the file is empty"))
         return _Yaml(yaml, loader, text).value(node, 0)
     except RecursionError:
-        raise Wrong(Cause(0, 0, NESTED)) from None
+        raise FaultAt(Cause(0, 0, NESTED)) from None
     except yaml.MarkedYAMLError as fault:
         mark = fault.problem_mark or fault.context_mark
-        raise Wrong(Cause(min(mark.index, len(text)), 1, f"not YAML: {fault.problem}")) from None
+        raise FaultAt(Cause(min(mark.index, len(text)), 1, f"not YAML: {fault.problem}")) from None
     except yaml.reader.ReaderError as fault:
-        raise Wrong(Cause(fault.position, 1, f"not YAML: {fault.reason}")) from None
+        raise FaultAt(Cause(fault.position, 1, f"not YAML: {fault.reason}")) from None
     finally:
         if loader is not None:
             loader.dispose()
@@ -59,10 +59,10 @@ class _Yaml:
         """The value of a node. An alias has the places of its anchor."""
         at = node.start_mark.index
         if depth == DEEPEST:
-            raise Wrong(Cause(at, 1, f"this is nested deeper than {DEEPEST}"))
+            raise FaultAt(Cause(at, 1, f"this is nested deeper than {DEEPEST}"))
         self.count += 1
         if self.count > MOST_VALUES:
-            raise Wrong(Cause(at, 1, f"the file has more than {MOST_VALUES} values"))
+            raise FaultAt(Cause(at, 1, f"the file has more than {MOST_VALUES} values"))
         if isinstance(node, self.yaml.MappingNode):
             return Value(self._table(node, depth), at)
         if isinstance(node, self.yaml.SequenceNode):
@@ -80,11 +80,11 @@ class _Yaml:
         for name, _ in node.value:
             at = name.start_mark.index
             if not isinstance(name, self.yaml.ScalarNode):
-                raise Wrong(Cause(at, 1, "this key is not a text"))
+                raise FaultAt(Cause(at, 1, "this key is not a text"))
             line = line_of(self.text, at)
             if name.value in lines and name.value != "<<":
                 what = f'the key "{shown(name.value)}" is on line {lines[name.value]} too'
-                raise Wrong(Cause(at, len(name.value), what, "remove one of them"))
+                raise FaultAt(Cause(at, len(name.value), what, "remove one of them"))
             lines[name.value] = line
         self.loader.flatten_mapping(node)
         return {key(name.value, name.start_mark.index): self.value(item, depth + 1)
@@ -101,9 +101,9 @@ def read_toml(text):
         if line:
             before = text.split("\n")[:int(line) - 1]
             at = sum(len(row) + 1 for row in before) + int(column) - 1
-        raise Wrong(Cause(min(at, len(text)), 1, f"not TOML: {what}")) from None
+        raise FaultAt(Cause(min(at, len(text)), 1, f"not TOML: {what}")) from None
     except RecursionError:
-        raise Wrong(Cause(0, 0, NESTED)) from None
+        raise FaultAt(Cause(0, 0, NESTED)) from None
     return _Toml(text, _toml_places(text)).value(tree, (), 0)
 
 
@@ -147,7 +147,7 @@ class _Toml:
         """The value at a path, whose parent has the place `outer`."""
         at = self.places.get(path, (outer, outer))[1]
         if len(path) == DEEPEST:
-            raise Wrong(Cause(at, 1, f"this is nested deeper than {DEEPEST}"))
+            raise FaultAt(Cause(at, 1, f"this is nested deeper than {DEEPEST}"))
         if isinstance(data, dict):
             return Value({self._key(name, path, at): self.value(item, path + (name,), at)
                           for name, item in data.items()}, at)
@@ -158,10 +158,10 @@ class _Toml:
             return _scalar(data, at, self.text) if path in self.places else Value(data, at)
         if isinstance(data, float):
             if not _NUMBER.fullmatch(repr(data)):
-                raise Wrong(Cause(at, 1, f"{data} is not a number of a plan"))
+                raise FaultAt(Cause(at, 1, f"{data} is not a number of a plan"))
             return Value(Raw(repr(data)), at)
         if not isinstance(data, (bool, int)):
-            raise Wrong(Cause(at, 1, "a plan has no dates", "write milliseconds"))
+            raise FaultAt(Cause(at, 1, "a plan has no dates", "write milliseconds"))
         return Value(data, at)
 
     def _key(self, name, path, outer):

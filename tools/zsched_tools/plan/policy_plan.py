@@ -4,8 +4,8 @@ import re
 
 from zsched_tools.durations import exact_milliseconds
 from zsched_tools.hints import JOB_KEYS
-from zsched_tools.place import Cause
-from zsched_tools.plan.placed import Raw, Value, Wrong, key
+from zsched_tools.place import Cause, FaultAt
+from zsched_tools.plan.placed import Raw, Value, key
 from zsched_tools.program import MOST_ENTRIES
 from zsched_tools.words import shown
 
@@ -76,10 +76,10 @@ def _entries_in_words(value, notes):
         words = _ATTEMPT.fullmatch(part)
         length = words and exact_milliseconds(words[1])
         if length is None:
-            raise Wrong(Cause(at, size, f'"{shown(part.strip())}" is not an attempt', _AN_ATTEMPT))
+            raise FaultAt(Cause(at, size, f'"{shown(part.strip())}" is not an attempt', _AN_ATTEMPT))
         _, outcome, code, times = words.groups()
         if not 1 <= int(times or 1) <= MOST_ENTRIES - len(found):
-            raise Wrong(Cause(at, size, f"a script has 1 to {MOST_ENTRIES} attempts"))
+            raise FaultAt(Cause(at, size, f"a script has 1 to {MOST_ENTRIES} attempts"))
         ms = whole(length, words[1] + ("" if re.search("[a-zµ]", words[1]) else " ms"), at, notes)
         entry = {key("ms", at): Value(ms, at), key(outcome, at): Value(int(code), at)}
         found += [Value(entry, at)] * int(times or 1)
@@ -138,7 +138,7 @@ class Policies:
                 continue
             if name.data in places:
                 what = f'a job before it is named "{shown(name.data)}" too'
-                raise Wrong(Cause(name.at, 1, what, "write another name"))
+                raise FaultAt(Cause(name.at, 1, what, "write another name"))
             places[name.data] = name.at
             if is_allowed(name.data):
                 self.names.take(name.data)
@@ -148,7 +148,7 @@ class Policies:
 def _policy_jobs(policies):
     """A job for each name of the table `policies`, whose values are schedules."""
     if not isinstance(policies.data, dict):
-        raise Wrong(Cause(policies.at, 1, "policies must be a table of names and schedules",
+        raise FaultAt(Cause(policies.at, 1, "policies must be a table of names and schedules",
                           "write a line for each, as payments: recurs(3)"))
     return [Value({key("name", name.at): Value(str(name), name.at, name.at),
                    key("schedule", name.at): schedule}, name.at)
@@ -158,11 +158,11 @@ def _policy_jobs(policies):
 def plan_of(root, until, notes):
     """The plan of a file. If it has neither horizon nor ticks, `until` is the horizon."""
     if not isinstance(root.data, dict):
-        raise Wrong(Cause(root.at, 1, "the file must be a table of keys", "write horizon: 60000"))
+        raise FaultAt(Cause(root.at, 1, "the file must be a table of keys", "write horizon: 60000"))
     if not {"jobs", "policies"} & set(root.data):
-        raise Wrong(Cause(root.at, 1, 'the file has no "jobs" and no "policies"',
+        raise FaultAt(Cause(root.at, 1, 'the file has no "jobs" and no "policies"',
                           "write policies: {checkout: recurs(3)}; zsched-policy import reads configs of other "
-                          "programs"))
+                            "programs"))
     given = {name: value for name, value in root.data.items() if name not in DEFAULTS}
     defaults = {key("mode", root.at): Value("retry", root.at)}
     defaults.update((name, value) for name, value in root.data.items() if name in DEFAULTS)

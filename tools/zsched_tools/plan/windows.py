@@ -9,7 +9,7 @@ import json
 from typing import NamedTuple
 
 from zsched_tools.outage.scenario import DEFAULTS, Outcome
-from zsched_tools.program import MOST_ENTRIES, cut_plans, run_plan
+from zsched_tools.program import MOST_ENTRIES, cut_plans, job_text, run_plan
 from zsched_tools.reports import attempts_in, blocks_of
 from zsched_tools.words import duration, plural
 
@@ -39,10 +39,8 @@ class Request(NamedTuple):
 
     def job(self, schedule, mode, script):
         """The job, as JSON."""
-        start = f'"start":{self.start},' if self.start else ""
         entries = ",".join(outcome.entry() for outcome in script)
-        return (f'{{"name":"{self.name}","mode":"{mode}","schedule":{json.dumps(schedule)},{start}'
-                f'"script":[{entries}]}}')
+        return job_text(self.name, schedule, entries, mode, self.start or None)
 
 
 def tells_state(outcome):

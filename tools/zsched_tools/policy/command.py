@@ -10,7 +10,6 @@ from zsched_tools.policy.spelling import spelled
 from zsched_tools.words import listed, shown
 
 TOOL = "zsched-policy"
-NOTHING = 1
 DESCRIPTION = """Finds the retry policies in the config of another program, and prints each as a schedule.
 
   zsched-policy import service.yaml
@@ -120,7 +119,7 @@ def _import(given):
     if not chosen:
         name = f" {shown(given.name)}" if given.name is not None else ""
         print(f"{TOOL}: {given.file}: no policy{name}; {names_of(policies)}", file=sys.stderr)
-        return NOTHING
+        return command.NO
     status = 0
     for found in chosen:
         try:

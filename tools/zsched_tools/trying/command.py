@@ -6,7 +6,7 @@ import re
 import sys
 
 from zsched_tools import bounding, command, plan_size, program, starting
-from zsched_tools.command import REFUSED, Paint, Refused, add_color, add_version
+from zsched_tools.command import REFUSED, Paint, Refused
 from zsched_tools.drawn import Policy
 from zsched_tools.durations import duration_argument
 from zsched_tools.place import FaultAt, place_lines
@@ -18,7 +18,6 @@ from zsched_tools.trials import MOST_AFTER, plan_of, tried_in
 from zsched_tools.words import duration, plural
 
 TOOL = "zsched-try"
-EXCEEDED = 1
 # The program's status if it is out of memory or of threads.
 NO_MEMORY = 4
 DESCRIPTION = """Runs policies from the command line, all on the same attempts, and prints a line for each: how it ends,
@@ -190,7 +189,7 @@ def _print_all(given, report, all_bounds):
         for words in [*_exceeded(given, policy, found), *(_not_proved(given, bounds) if bounds is not None else [])]:
             sys.stdout.flush()
             print(f"{TOOL}: {policy.text}: {words}", file=sys.stderr)
-            status = EXCEEDED
+            status = command.NO
     return status
 
 
@@ -276,8 +275,7 @@ def add_attempts(parser):
 
 def arguments():
     """The parser of the command line."""
-    form = argparse.RawDescriptionHelpFormatter
-    parser = argparse.ArgumentParser(prog=TOOL, description=DESCRIPTION, epilog=EPILOG, formatter_class=form)
+    parser = command.parser(TOOL, DESCRIPTION, EPILOG)
     parser.add_argument("policies", metavar="POLICY", nargs="+", help="a schedule")
     add_attempts(parser)
     parser.add_argument("--max-total", type=_time(0), metavar="TIME", help="the latest end")
@@ -293,9 +291,7 @@ def arguments():
     printed.add_argument("--plan", action="store_true", help="print the plan, and run nothing")
     printed.add_argument("--svg", action="store_true", help="print the picture")
     parser.add_argument("--title", default="", help="the text above the picture")
-    add_color(parser)
-    add_version(parser)
-    return parser
+    return command.complete(parser)
 
 
 main = starting.command(TOOL, arguments, work)
