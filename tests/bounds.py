@@ -12,6 +12,8 @@ from reference import sat
 
 MOST, LAST = 2 ** 64 - 1, 999999999999999
 STEPS, ANY = 20000, (1, None)
+# The least and the greatest duration of attempts.
+DURATIONS = [ANY, ANY, (1, 1), (1, 8), (2, 3), (1, 5001), (20, 5020)]
 # The most steps of histories of small policies, and the most histories.
 DEEP, MOST_HISTORIES = 7, 20000
 
@@ -53,12 +55,6 @@ def mapped(function, k, out):
             None: lambda: out}[function]()
 
 
-def kept(result, passes, fails):
-    """A result that stops if a test fails."""
-    out, wait, may_stop = result
-    return out, wait if passes else None, may_stop or fails
-
-
 def leaf(s, steps, time):
     """The result of a leaf by the intervals of its number of steps, with this one, and of the time since the first."""
     (low, high), is_first = steps, steps[1] == 1
@@ -96,8 +92,7 @@ def merge(s, a, b):
 
 
 def step(s, state, d):
-    """The result of one more step, after a time of the interval d since the one before, and the state after it; None is
-    the first state."""
+    """The result of one more step, an interval d of time after the one before, and the next state; None is the first."""
     match s:
         case ("&&" | "||") as operator, a, b:
             (x, v, stops_a), after_a = step(a, state and state[0], d)
@@ -110,12 +105,10 @@ def step(s, state, d):
             return (("pair", x, y), wait, stops_a and stops_b), (after_a, after_b)
         case "andThenEither", a, b:
             return step_in_turn(a, b, state, d)
-        case "whileInput", part, _, comparison, k:
-            result, after = step(part, state, d)
-            return kept(result, *tested((0, MOST), comparison, k)), after
-        case "whileOutput", part, pick, comparison, k:
-            result, after = step(part, state, d)
-            return kept(result, *tested(mapped(pick, None, result[0])[1:], comparison, k)), after
+        case "whileInput" | "whileOutput" as operator, part, pick, comparison, k:
+            (x, wait, stops), after = step(part, state, d)
+            passes, fails = tested((0, MOST) if operator == "whileInput" else mapped(pick, None, x)[1:], comparison, k)
+            return (x, wait if passes else None, stops or fails), after
         case "collectAll", part:
             count = state[1] if state else (0, 0)
             (_, wait, stops), after = step(part, state and state[0], d)
@@ -151,17 +144,15 @@ def step_in_turn(a, b, state, d):
 
 
 def bounds(s, durations=ANY, most=STEPS):
-    """The bounds of a schedule whose attempts take one of the durations, by at most this number of steps, as zsched-bounds
-    prints them."""
-    shortest, longest_attempt = durations
-    state, d, passed, least, longest, total, run = None, None, 0, 1, 0, 0, longest_attempt
+    """The bounds of a schedule and durations of attempts, by at most this number of steps, as zsched-bounds prints them."""
+    state, d, passed, least, longest, total, run = None, None, 0, 1, 0, 0, durations[1]
     for n in range(1, most + 1):
         (_, wait, may_stop), state = step(s, state, d)
         least += least == n and not may_stop
         if wait:
             longest, total = max(longest, wait[1]), total + wait[1]
-            run = run and run + wait[1] + longest_attempt
-            d = wait[0] + shortest, wait[1] + longest_attempt if longest_attempt else LAST
+            run = run and run + wait[1] + durations[1]
+            d = wait[0] + durations[0], wait[1] + (durations[1] or LAST)
             passed += d[0]
         if wait is None or passed > LAST:
             break
@@ -186,33 +177,21 @@ def random_policy(seed):
         return None
 
 
-def random_durations(chance):
-    """The least and the greatest duration of attempts; two of five have no greatest one."""
-    least = chance.choice([1, 1, 2, 20])
-    return chance.choice([ANY, ANY, *((least, least + more) for more in (0, chance.choice([1, 2, 7]), 5000))])
-
-
-def driven_steps(text, least, most):
-    """The inputs and durations that make a difference to a policy, and the number of steps, at most DEEP, for which
-    there are at most MOST_HISTORIES histories over them."""
-    tested_by = map(int, re.findall(r"[<=>] *(\d+)", text) if "nput" in text or "identity" in text else [])
-    inputs, longest = sorted({0, *(min(max(0, k + d), MOST) for k in tested_by for d in (-1, 0, 1))}), most or least + 2
+def reached(text, s, shortest, longest_attempt):
+    """The steps, at most DEEP, of at most MOST_HISTORIES histories over the inputs and durations that matter to a policy,
+    and the bounds that these reach. A run has the attempt that the last step lets begin, even if it ends after LAST."""
+    ks = map(int, re.findall(r"[<=>] *(\d+)", text) if "nput" in text or "identity" in text else [])
+    inputs, late = sorted({0, *(min(max(0, k + d), MOST) for k in ks for d in (-1, 0, 1))}), longest_attempt or shortest + 2
     is_timed = any(word in text for word in ("fixed", "windowed", "elapsed"))
-    durations = sorted({least, min(least + 1, longest), longest} if is_timed else {longest})
-    fits = [n for n in range(1, DEEP + 1) if len(inputs) * (len(inputs) * len(durations)) ** (n - 1) <= MOST_HISTORIES]
-    return inputs, durations, fits[-1]
-
-
-def reached(s, inputs, durations, steps):
-    """The least and most steps, the longest wait, the total and the longest run that all driven histories of these inputs
-    and durations reach. A run has the attempt that the last step lets begin, even if it ends after LAST."""
+    durations = {shortest, min(shortest + 1, late), late} if is_timed else {late}
+    steps = max(n for n in range(1, DEEP + 1) if len(inputs) ** n * len(durations) ** (n - 1) <= MOST_HISTORIES)
     least, most, longest, total, run = steps + 1, 0, 0, 0, 0
     open_histories = [([(0, i)], 0) for i in inputs]
     while open_histories:
         pairs, waited = open_histories.pop()
         n = len(pairs)
         _, x = reference.step(s, reference.History(pairs, {}, 0, n))
-        run = max(run, durations[-1] + (pairs[-1][0] if x is None else x + durations[-1]))
+        run = max(run, late + (pairs[-1][0] if x is None else x + late))
         if x is None:
             least, most, total = min(least, n), max(most, n), max(total, waited)
             continue
@@ -221,9 +200,8 @@ def reached(s, inputs, durations, steps):
         if n == steps:
             most = steps + 1
         else:
-            open_histories += [
-                (pairs + [(x + d, i)], waited + wait) for d in durations if x + d <= LAST for i in inputs]
-    return least, most, longest, total, run
+            open_histories += [([*pairs, (x + d, i)], waited + wait) for d in durations if x + d <= LAST for i in inputs]
+    return steps, (least, most, longest, total, run)
 
 
 def tightness(seeds):
@@ -231,14 +209,14 @@ def tightness(seeds):
     exactly within the same steps: for each of the five bounds the number of policies that reach it, and that have it."""
     met, had = [0] * 5, [0] * 5
     for seed in seeds:
-        found, durations = random_policy(seed), random_durations(random.Random(seed))
+        found, durations = random_policy(seed), random.Random(seed).choice(DURATIONS)
         if found is None or len(found[0]) >= 60 or "resetWhen" in found[0]:
             continue
         text = f"({found[0]} && recurs({seed % 4}))" if seed % 4 else found[0]
-        *some, steps = driven_steps(text, *durations)
         s = reference.read_schedule(text.encode())
-        b, histories = bounds(s, durations, steps), reached(s, *some, steps)
-        said = (min(b["attempts"]["least"], steps + 1), b["attempts"]["most"] or steps + 1, b["longest_wait"],
-                b["total_wait"], b["longest_run"])
+        steps, histories = reached(text, s, *durations)
+        b = bounds(s, durations, steps)
+        said = [min(b["attempts"]["least"], steps + 1), b["attempts"]["most"] or steps + 1]
+        said += [b[key] for key in ("longest_wait", "total_wait", "longest_run")]
         met, had = zip(*((m + (x == y), h + (x is not None)) for m, h, x, y in zip(met, had, said, histories)))
     return met, had

@@ -47,10 +47,7 @@ globalThis.page = {
   // What holds for every input of a schedule and attempts of these durations, in numbers and in words.
   bounds: (schedule, steps = null, attempt = [1, null]) =>
     named("bounding").boundsOf(schedule, steps, attempt.map(it => it && BigInt(it))),
-  everyInput(...given) {
-    const found = page.bounds(...given);
-    return `${named("bounding").scope(found.attempt)}: ${named("bounding").words(found)}`;
-  },
+  everyInput: (...given) => named("it => `${bounding.scope(it.attempt)}: ${bounding.words(it)}`")(page.bounds(...given)),
 };
 
 function called(line) {

@@ -87,28 +87,21 @@ def test_an_evaluator_that_counts_wrong_is_noticed(tmp_path):
         assert answer(call, text) != reference.answer(text)
 
 
-def judge_bounds(page, text, schedule, durations=bounds.ANY, steps=120):
-    """The page's bounds by at most so many steps are those of tests/bounds.py."""
-    found, wanted = page("page.bounds", text, steps, durations), bounds.bounds(schedule, durations, steps)
-    numbers = [found[key] and int(found[key]) for key in ["least", "most", "longest", "total", "run", "seen"]]
-    others = [wanted[key] for key in ["longest_wait", "total_wait", "longest_run", "steps_seen"]]
-    assert numbers == [*wanted["attempts"].values(), *others], text
-    assert found["isCut"] or wanted["attempts"]["most"] is not None or wanted["steps_seen"] < steps, text
+RANDOM = [found[0] for seed in range(examples(400)) if (found := bounds.random_policy(seed))]
+PLANNED = {job["schedule"] for path in plans_with_reports() for job in json.loads(path.read_bytes())["jobs"]}
 
 
-def test_bounds_of_random_schedules(page):
-    policies = [found for seed in range(examples(400)) if (found := bounds.random_policy(seed))]
-    for text, schedule in policies:
-        judge_bounds(page, text, schedule, bounds.random_durations(random.Random(text)))
-    assert len(policies) > 100
-
-
-def test_bounds_of_the_schedules_of_the_plans(page):
-    texts = {job["schedule"] for path in plans_with_reports() for job in json.loads(path.read_bytes())["jobs"]}
-    short = sorted(text for text in texts if len(text) < 2000)
+@pytest.mark.parametrize("texts, least", [(RANDOM, 100), (sorted(PLANNED), 60)], ids=["random", "of the plans"])
+def test_bounds_are_those_of_the_interval_run(page, texts, least, steps=120):
+    short = [text for text in texts if len(text) < 2000]
     for text in short:
-        judge_bounds(page, text, reference.read_schedule(text.encode()))
-    assert len(short) > 60
+        durations = random.Random(text).choice(bounds.DURATIONS)
+        found, wanted = page("page.bounds", text, steps, durations), bounds.bounds(
+            reference.read_schedule(text.encode()), durations, steps)
+        numbers = [found[key] and int(found[key]) for key in ["longest", "total", "run", "seen", "least", "most"]]
+        assert numbers == [*list(wanted.values())[2:], *wanted["attempts"].values()], text
+        assert found["isCut"] or wanted["attempts"]["most"] is not None or wanted["steps_seen"] < steps, text
+    assert len(short) > least
 
 
 def wrong_schedules():
