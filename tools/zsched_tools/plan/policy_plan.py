@@ -161,7 +161,7 @@ def plan_of(root, until, notes):
         raise FaultAt(Cause(root.at, 1, "the file must be a table of keys", "write horizon: 60000"))
     if not {"jobs", "policies"} & set(root.data):
         raise FaultAt(Cause(root.at, 1, 'the file has no "jobs" and no "policies"',
-                          "write policies: {checkout: recurs(3)}; zsched-policy import reads configs of other "
+                            "write policies: {checkout: recurs(3)}; zsched-policy import reads configs of other "
                             "programs"))
     given = {name: value for name, value in root.data.items() if name not in DEFAULTS}
     defaults = {key("mode", root.at): Value("retry", root.at)}
