@@ -90,6 +90,9 @@ def _count(most):
 def _entries(given):
     """The entries of the script of all policies."""
     longest = given.attempt and given.attempt[1]
+    for option, entry in [("--fails", given.fails), ("--then", given.then)]:
+        if entry and longest and not given.attempt[0] <= entry[0] <= longest:
+            raise Refused(f"an attempt of {option} takes {duration(entry[0])}, which --attempt excludes")
     first = given.fails or (longest or 40, *(("err", 503) if given.mode == "retry" else ("ok", 200)))
     if given.after is None:
         if given.then:
