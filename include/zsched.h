@@ -110,9 +110,10 @@ uint32_t zs_bounds(const uint8_t *text, size_t text_len, uint64_t steps, struct 
  * A program is a schedule that is written into the caller's words once, so that no step reads its text again. A program and its
  * state are arrays of words whose numbers depend only on the schedule: at most 4 for each of its nodes, and four more, for the
  * program; at most 4 for each of its nodes, and two more, for the state. A step takes no longer after many steps than after
- * one. A program has a version and a check word over itself, which each of its states has too. So older words, changed ones
- * and another program's state are rejected. Both may be copied, and stored as bytes for machines of the same byte order. After
- * a restart they still serve, if later moments aren't smaller. A schedule with collectAll has no program, since its list grows.
+ * one. A program has a version and a check word over itself, which each of its states has too. So zeroed, older and changed
+ * words and another program's state are rejected. Both may be copied, and stored as bytes for machines of the same byte order.
+ * After a restart they still serve, if later moments aren't smaller. A schedule with collectAll has no program, since its list
+ * grows.
  *
  * The numbers of words of the program of a text's schedule, and of its state: ZS_NEXT (0). Otherwise ZS_KEEPS_LIST, or what
  * zs_check returns for the text, with its place; both are then 0. */
@@ -133,8 +134,8 @@ uint32_t zs_program_begin(const uint64_t *program, size_t program_len, uint64_t 
  * is 0.
  *
  * The words after the first of a state don't show from which steps they come. For a state that was changed there, or a program
- * that was changed on purpose, with a check word that fits, the only promise is that the call returns, and reads and writes
- * nothing but what is passed to it. */
+ * that was changed on purpose, with a check word that fits, the only promise is that the call returns, reads and writes nothing
+ * but what is passed to it, and leaves the state's first word and the words after the state. */
 uint32_t zs_program_step(const uint64_t *program, size_t program_len, uint64_t *state, size_t state_len, uint64_t moment,
                          uint64_t input, zs_reply *reply, uint8_t *out, size_t out_len);
 

@@ -133,17 +133,35 @@ def test_each_number_of_the_header_has_a_text_that_is_cut_where_its_room_ends(li
         assert room.value == whole[:size].ljust(len(whole) + 3, b"-")
 
 
-def test_a_program_is_the_words_that_its_definition_says(library):
-    body, check = [len(CODE), 6, *CODE], 0
+def program_of(code, state=6):
+    """The words of a program with this code, by their definition."""
+    body, check = [len(code), state, *code], 0xcbf29ce484222325
     for word in body:
         check = (check * 0x9e3779b97f4a7c15 + word) % 2 ** 64
-    calls, at, size = ctypes.CDLL(str(library / "libzsched.so")), ctypes.c_uint64(), len(body) + 3
-    words, state = (ctypes.c_uint64 * size)(*[7] * size), (ctypes.c_uint64 * 9)(*[7] * 9)
-    sizes = [ctypes.c_size_t(len(it)) for it in (words, state)]
-    assert calls.zs_compile(POLICY, ctypes.c_size_t(len(POLICY)), words, sizes[0], ctypes.byref(at)) == 0
-    assert (at.value, list(words)) == (0, [0x7a73636865640001, check, *body, 7])
-    assert calls.zs_program_begin(words, sizes[0], state, sizes[1]) == 0
-    assert list(state) == [check, 0, 100, 100, 0, 0, 0, 0, 7]
+    return [0x7a73636865640002, check, *body]
+
+
+def array(words):
+    """Words and their number, as arguments of a call."""
+    return (ctypes.c_uint64 * len(words))(*words), ctypes.c_size_t(len(words))
+
+
+def test_a_program_is_the_words_that_its_definition_says(library):
+    calls, at, wanted = ctypes.CDLL(str(library / "libzsched.so")), ctypes.c_uint64(), program_of(CODE)
+    words, state = array([7] * (len(wanted) + 1)), array([7] * 9)
+    assert calls.zs_compile(POLICY, ctypes.c_size_t(len(POLICY)), *words, ctypes.byref(at)) == 0
+    assert (at.value, list(words[0])) == (0, [*wanted, 7])
+    assert calls.zs_program_begin(*words, *state) == 0
+    assert list(state[0]) == [wanted[1], 0, 100, 100, 0, 0, 0, 0, 7]
+
+
+def test_a_zeroed_program_and_one_with_a_byte_changed_are_rejected(library):
+    calls, right, state = ctypes.CDLL(str(library / "libzsched.so")), program_of(CODE), array([7] * 9)
+    wrong = [[], [0] * 20, [right[0]] + [0] * 19, [right[0], 0, 0, 0], [right[0], 9, 0, 9], program_of([]), program_of([], 0)]
+    wrong += [[word ^ (0xa5 << bits if at == place else 0) for at, word in enumerate(right)]
+              for place in range(len(right)) for bits in range(0, 64, 8)]
+    assert {calls.zs_program_begin(*array(words), *state) for words in wrong} == {8} and list(state[0]) == [7] * 9
+    assert calls.zs_program_begin(*array(right), *state) == 0
 
 
 def test_the_header_is_one_of_cpp_too():

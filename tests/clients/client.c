@@ -154,12 +154,15 @@ static void test_words(const schedule *it)
                   is_untouched(few, LENGTH(few, size - 1)) && last_step(it, size, state_size - 1) == ZS_NO_ROOM &&
                   zs_program_begin(it->program, size, it->state, state_size - 1) == ZS_NO_ROOM;
     for (size_t i = 0; i < size; i++)
-        for (uint64_t change = 1; change; change <<= 21) {
-            it->program[i] ^= change;
+        for (uint64_t byte = 1 + i % 255; byte; byte <<= 8) {
+            it->program[i] ^= byte;
             is_well &= zs_program_begin(it->program, size, it->state, state_size) == ZS_NO_PROGRAM &&
                        last_step(it, size, state_size) == ZS_NO_PROGRAM;
-            it->program[i] ^= change;
+            it->program[i] ^= byte;
         }
+    memset(few, 0, LENGTH(few, size - 1));
+    for (size_t i = 0; i < 2; i++, few[0] = it->program[0])
+        is_well &= zs_program_begin(few, size - 1, it->state, state_size) == ZS_NO_PROGRAM;
     for (size_t short_size = 0; short_size < size; short_size += 1 + short_size / 4)
         is_well &= last_step(it, short_size, state_size) == ZS_NO_PROGRAM;
     for (uint64_t change = 1; change; change <<= 21) {

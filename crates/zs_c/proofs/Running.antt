@@ -1,6 +1,6 @@
 -- A step of a program over the words of its state.
 use Rattle.std.proofs.Common.{◌≡◌, ℕ, suc, ◌+◌, ◌-◌, ◌^◌, ◌<◌, ◌≤◌, Bool, true, false, ◌&&◌, List, [], ◌∷◌, ◌++◌, length, take, drop, get_or, length-drop, refl, sym, ap, ◌∙◌, subst, arith, Fits, w64}
-use Rattle.std.specs.Prelude.{slice_set, nat_le}
+use Rattle.std.specs.Prelude.{slice_index_or, slice_set, nat_le}
 use Rattle.std.proofs.lemmas.Bool.Decides.{nat_tests}
 use Rattle.std.proofs.lemmas.List.{length-take}
 use Rattle.std.proofs.Math.Seq.{take-append_seam, drop-append_seam}
@@ -15,7 +15,7 @@ use Rattle.zs_c.specs.Numbers.{decision_number, next_moment}
 use Rattle.zs_c.specs.Code.{IsCode, code_of, held_of, held_size}
 use Rattle.zs_c.specs.Opened.{Opens}
 use Rattle.zs_c.specs.Program.{program_check, KeepsProgramState}
-use Rattle.zs_c.specs.Programs.{IsProgramStepped}
+use Rattle.zs_c.specs.Programs.{IsProgramStepped, IsStepSafe}
 use Rattle.zs_c.specs.Steps.{StepsCode}
 use Rattle.zs_c.specs.Told.{written}
 use Rattle.zs_c.proofs.Codes.{held-length}
@@ -87,6 +87,20 @@ state-behind n now old ys fits sized =
     let e : n + 2 - 2 ≡ n = omega arith in
     ap (λ k. drop (suc (suc n)) (slice_set (put_mid 2 k old ys) 1 now)) e ∙ behind-rest n now old ys fits sized
 
+-- a step of the words of a state, whatever they are
+safe-words : (program old ys : List ℕ) (n now : ℕ) → n ≡ slice_index_or program 3 0 → n + 2 ≤ length old → length ys ≡ n →
+    IsStepSafe program old (slice_set (put_mid 2 (n + 2 - 2) old ys) 1 now) now
+safe-words program [] ys n now is fits sized = absurd (omega (arith, fits))
+safe-words program (a ∷ []) ys n now is fits sized = absurd (omega (arith, fits))
+safe-words program (a ∷ (b ∷ rest)) ys n now is fits sized =
+    let e : slice_index_or program 3 0 + 2 ≡ suc (suc n) = omega (arith, is) in
+    record {
+      check = refl;
+      moment = refl;
+      behind = ap (λ k. drop k (slice_set (put_mid 2 (n + 2 - 2) (a ∷ (b ∷ rest)) ys) 1 now)) e ∙ state-behind n now (a ∷ (b ∷ rest)) ys fits sized
+          ∙ sym (ap (λ k. drop k (a ∷ (b ∷ rest))) e);
+    }
+
 -- a step of the words of a state, and what it returns
 pub program-stepped : (t : Schedule) (old ys room out : List ℕ) (now input n number next size visits : ℕ) (d : Decision) →
     n ≡ held_size t → n + 2 ≤ length old → length ys ≡ n →
@@ -147,3 +161,8 @@ opened-stepped o t opens old ys room out now input number next size visits d fit
     (λ g held. text t g code light (written-words n old ys fits sized ∙ held))
     (λ g held. ends t g code light (written-words n old ys fits sized ∙ held))
     numbered goes
+
+-- the same for any words
+pub opened-safe : (o : Opened) (program old ys : List ℕ) (now : ℕ) → o.state ≡ slice_index_or program 3 0 → o.state + 2 ≤ length old →
+    length ys ≡ length (take (o.state + 2 - 2) (drop 2 old)) → IsStepSafe program old (slice_set (put_mid 2 (o.state + 2 - 2) old ys) 1 now) now
+opened-safe o program old ys now is fits kept = safe-words program old ys o.state now is fits (kept ∙ arg-length o.state old fits)

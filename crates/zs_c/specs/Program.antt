@@ -1,10 +1,10 @@
 -- A schedule as a program: a version, a check word of the words after it, the sizes of its code and
 -- of its state, and its code.
-use Rattle.std.specs.Prelude.{◌≡◌, ℕ, ◌+◌, ◌*◌, ◌%◌, ◌^◌, true, List, ◌∷◌, ◌++◌, length, fold}
+use Rattle.std.specs.Prelude.{◌≡◌, ℕ, ◌+◌, ◌*◌, ◌%◌, ◌^◌, ◌<◌, ◌≤◌, true, List, ◌∷◌, ◌++◌, length, take, drop, fold, slice_index_or}
 use Rattle.zs_term.specs.Schedule.{Schedule, is_within_limits}
 use Rattle.zs_step.specs.History.{History, last_moment}
 use Rattle.zs_step.specs.Memory.{keeps_no_list}
-use Rattle.zs_c.specs.declared.program.opening.TheConstants.{PROGRAM_VERSION, CHECK_FACTOR}
+use Rattle.zs_c.specs.declared.program.opening.TheConstants.{PROGRAM_VERSION, CHECK_START, CHECK_FACTOR}
 use Rattle.zs_c.specs.Code.{code_of, held_of, held_size}
 
 -- a check word after one more word
@@ -14,7 +14,15 @@ check_more check word = ((check * CHECK_FACTOR) % 2 ^ 64 + word) % 2 ^ 64
 -- The check word of some words. If exactly one word changes, the check word changes, because the
 -- factor is odd.
 unfoldable pub check_word : List ℕ → ℕ
-check_word words = fold check_more 0 words
+check_word words = fold check_more CHECK_START words
+
+-- Words with a version, a code that isn't empty, and the check word of what comes after it. All
+-- other words are rejected; these are stepped, also if they are the program of no schedule.
+pub record IsChecked (words : List ℕ) : Type 0 where
+  pub version : slice_index_or words 0 0 ≡ PROGRAM_VERSION
+  pub some : 0 < slice_index_or words 2 0
+  pub within : slice_index_or words 2 0 + 4 ≤ length words
+  pub check : slice_index_or words 1 0 ≡ check_word (take (slice_index_or words 2 0 + 2) (drop 2 words))
 
 -- the words after the check word of a program
 abbrev pub body_of : Schedule → List ℕ

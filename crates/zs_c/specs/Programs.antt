@@ -1,7 +1,7 @@
 -- What the calls over a program return to C. A program is words that begin with those of a
 -- schedule, and is that of one schedule alone. For other words, nothing is stated but why a call
--- fails.
-use Rattle.std.specs.Prelude.{◌≡◌, ◌≢◌, ℕ, ◌<◌, List, [], ◌∷◌, ◌++◌, length, drop, slice_index_or}
+-- fails, and what a step changes.
+use Rattle.std.specs.Prelude.{◌≡◌, ◌≢◌, ℕ, ◌+◌, ◌<◌, List, [], ◌∷◌, ◌++◌, length, drop, slice_index_or}
 use Rattle.zs_term.specs.Schedule.{Schedule}
 use Rattle.zs_step.specs.History.{History}
 use Rattle.zs_c.specs.declared.reply.Reply.{Reply}
@@ -82,6 +82,13 @@ pub record IsDeniedFor (Holds : Denial → Type 0) (n : ℕ) : Type 0 where
 -- a program's state before any step, written to the front of words
 pub record IsProgramBegun (t : Schedule) (old new : List ℕ) : Type 0 where
   pub begun : new ≡ program_state t [] ++ drop (length (program_state t [])) old
+
+-- A step of words that are checked, whatever else they and a state's words are: the check word and
+-- the words after the state are unchanged, and the second word is the moment.
+pub record IsStepSafe (program old new : List ℕ) (now : ℕ) : Type 0 where
+  pub check : slice_index_or new 0 0 ≡ slice_index_or old 0 0
+  pub moment : slice_index_or new 1 0 ≡ now
+  pub behind : drop (slice_index_or program 3 0 + 2) new ≡ drop (slice_index_or program 3 0 + 2) old
 
 -- The result of one more step is returned, for each history whose state the words were. The new
 -- words are the state after that step. Words after the state are unchanged, whatever the words

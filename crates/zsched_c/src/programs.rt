@@ -2,8 +2,8 @@
 
 ghost use Rattle.std.specs.Prelude.{◌≡◌, ◌<◌, ◌≤◌, length};
 ghost use Rattle.zs_term.specs.Schedule.{Schedule};
-ghost use Rattle.zs_c.specs.Program.{IsProgram};
-ghost use Rattle.zs_c.specs.Programs.{IsProgramSized, IsCompiled, IsCompileRefusal, IsUnfit, IsDenied, IsDeniedFor, IsProgramBegun, IsProgramStepped};
+ghost use Rattle.zs_c.specs.Program.{IsChecked, IsProgram};
+ghost use Rattle.zs_c.specs.Programs.{IsProgramSized, IsCompiled, IsCompileRefusal, IsUnfit, IsDenied, IsDeniedFor, IsProgramBegun, IsProgramStepped, IsStepSafe};
 ghost use Rattle.zs_c.specs.Refusals.{IsSizeRefusal};
 ghost use Rattle.zs_c.specs.Told.{IsRefusedFor};
 
@@ -49,6 +49,7 @@ pub extern "C" fn zs_compile(alloc: Global, text: &[u8], program: &mut [u64], at
 pub extern "C" fn zs_program_begin(program: &[u64], state: &mut [u64]) -> u32
     ensures begun { result ≡ 0 → (t : Schedule) → IsProgram program.now t
         → IsProgramBegun t state.old state.new }
+    ensures checked { result ≡ 0 → IsChecked program.now }
     ensures refused { 0 < result → IsDeniedFor (IsUnfit program.now state.old) result }
     ensures kept { 0 < result → state.new ≡ state.old }
 {
@@ -69,6 +70,8 @@ pub extern "C" fn zs_program_step(
 ) -> u32
     ensures stepped { result ≤ 1 → (t : Schedule) → IsProgram program.now t
         → IsProgramStepped t state.old state.new moment input result reply.new out.old out.new }
+    ensures checked { result ≤ 1 → IsChecked program.now }
+    ensures safe { result ≤ 1 → IsStepSafe program.now state.old state.new moment }
     ensures refused { 1 < result → IsDeniedFor (IsDenied program.now state.old moment) result }
     ensures nothing { 1 < result → reply.new ≡ record { next = 0; size = 0; visits = 0; at = 0 } }
     ensures stays { 1 < result → state.new ≡ state.old }

@@ -1,6 +1,6 @@
 //! Begins and steps a program, in the words of its state.
 
-ghost use Rattle.std.specs.Prelude.{◌≡◌, ◌+◌, ◌≤◌, [], ◌∷◌, length, drop, slice_index_or, IfOk, IfErr};
+ghost use Rattle.std.specs.Prelude.{◌≡◌, ◌+◌, ◌≤◌, List, ℕ, [], ◌∷◌, length, drop, slice_index_or, IfOk, IfErr};
 ghost use Rattle.zs_term.specs.OutputText.{output_text};
 ghost use Rattle.zs_term.specs.Schedule.{Schedule, weight};
 ghost use Rattle.zs_term.specs.declared.limits.TheConstants.{MAX_DEPTH, MAX_WEIGHT};
@@ -8,9 +8,9 @@ ghost use Rattle.zs_step.specs.History.{History};
 ghost use Rattle.zs_step.specs.Answer.{answer_of};
 ghost use Rattle.zs_c.specs.Code.{IsCode, held_of};
 ghost use Rattle.zs_c.specs.Told.{written};
-ghost use Rattle.zs_c.specs.Program.{IsProgram};
+ghost use Rattle.zs_c.specs.Program.{IsChecked, IsProgram};
 ghost use Rattle.zs_c.specs.Opened.{Opens};
-ghost use Rattle.zs_c.specs.Programs.{IsUnfit, IsDenied, IsProgramBegun, IsProgramStepped};
+ghost use Rattle.zs_c.specs.Programs.{IsUnfit, IsDenied, IsProgramBegun, IsProgramStepped, IsStepSafe};
 
 use crate::program::clearing::clear;
 use crate::program::denial::Denial;
@@ -27,6 +27,8 @@ use zs_term::MAX_DEPTH;
 #[inline(always)]
 pub(crate) fn fitting<'a>(program: &'a [u64], state: &[u64]) -> Result<Opened<'a>, Denial>
     ensures ok { IfOk result (λ o. (t : Schedule) → IsProgram program.now t → Opens o t) }
+    ensures checked { IfOk result (λ _. IsChecked program.now) }
+    ensures state { IfOk result (λ o. o.state ≡ slice_index_or program.now 3 0) }
     ensures fits { IfOk result (λ o. o.state + 2 ≤ length state.now) }
     ensures err { IfErr result (IsUnfit program.now state.now) }
 {
@@ -48,6 +50,8 @@ pub(crate) fn steppable<'a>(
     moment: u64,
 ) -> Result<Opened<'a>, Denial>
     ensures ok { IfOk result (λ o. (t : Schedule) → IsProgram program.now t → Opens o t) }
+    ensures checked { IfOk result (λ _. IsChecked program.now) }
+    ensures state { IfOk result (λ o. o.state ≡ slice_index_or program.now 3 0) }
     ensures fits { IfOk result (λ o. o.state + 2 ≤ length state.now) }
     ensures err { IfErr result (IsDenied program.now state.now moment) }
 {
@@ -86,6 +90,8 @@ pub(crate) fn run_step(
     ensures stepped { (t : Schedule) → Opens opened.entry t
         → IsProgramStepped t state.old state.new step.now.moment step.now.input result reply.new
         out.old out.new }
+    ensures safe { (program : List ℕ) → opened.entry.state ≡ slice_index_or program 3 0
+        → IsStepSafe program state.old state.new step.now.moment }
 {
     let mut visits = 0;
     let words = &mut state[2..opened.state + 2];
