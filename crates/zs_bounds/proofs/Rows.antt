@@ -89,8 +89,8 @@ resets = refl
 gives_up_in_time : bounds_of backoff (lasting 1 5000) 20 ≡ told_run 6 6 (Some 6) 1600 (Some 3100) (Some 33100)
 gives_up_in_time = refl
 
--- Waits of 400 ms. The second to sixth attempts end 401 to 410, .., 2005 to 2050 ms after the first.
--- So the sixth is the last, and the fifth isn't.
+-- Waits of 400 ms. The second to sixth attempts end 401 to 410, .., 2005 to 2050 ms after the
+-- first. So the sixth is the last, and the fifth isn't.
 short_attempts : bounds_of two_seconds (lasting 1 10) 20 ≡ told_run 6 6 (Some 6) 400 (Some 2000) (Some 2060)
 short_attempts = refl
 

@@ -31,8 +31,8 @@ NextEndsAt s d begun [] m = IsAttempt d begun m
 NextEndsAt s d begun (p ∷ h) m =
     IsDriven s d (p ∷ h) × IsAttempt d begun (first_moment (p ∷ h)) × LetsEndAt d (answer_of s (p ∷ h)).decision m
 
--- What is promised of every history that a driver can make with a schedule, if attempts take as long
--- as d says.
+-- What is promised of every history that a driver can make with a schedule, by the durations of
+-- attempts.
 pub record Promises (s : Schedule) (d : Durations) (b : Bounds) : Type 0 where
   -- with a most, no history has more steps, and at that step the schedule is done
   pub most : (k : ℕ) → b.most ≡ Some k → (h : History) → IsDriven s d h → length h ≤ k

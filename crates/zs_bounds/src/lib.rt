@@ -1,8 +1,8 @@
 //! What a schedule does for every history that a driver can make: how often it is stepped, how long
 //! it waits, and how long the attempts and the waits take together.
 //!
-//! `bounds` steps a state with intervals in place of numbers. What it returns holds for every input,
-//! if attempts take as long as `Durations` says. Start with `specs/Driven.antt` and `specs/Bounds.antt`, which
+//! `bounds` steps a state with intervals in place of numbers. What it returns holds for every input
+//! and the given durations of attempts. Start with `specs/Driven.antt` and `specs/Bounds.antt`, which
 //! say what is promised.
 //!
 //! ```rust

@@ -125,7 +125,7 @@ module _ (job : JobRecord) (ticks : List ℕ) (due : Option ℕ) (ending : Optio
 
 module _ (d : Durations) (job : JobRecord) (script : IsScript job.script) (inputs : HasInputs job.script) (ticks : List ℕ) (clock : AreTicks ticks)
     (takes : Takes d job ticks) where
-  -- an attempt that is due at x takes as long as its entry of the script says; with a most, it begins at x
+  -- an attempt that is due at x takes as long as its entry says; with a most, it begins at x
   pub attempt-from : (h : History) (x s : ℕ) → x ≤ s → ((k : ℕ) → d.most ≡ Some k → s ≡ x) → IsAttempt d x (s + (beat_after job h).ms)
   attempt-from h x s from begins = record {
     least = (
