@@ -2,8 +2,8 @@
 //! it waits, and how long the attempts and the waits take together.
 //!
 //! `bounds` steps a state with intervals in place of numbers. What it returns holds for every input
-//! and the given durations of attempts. Start with `specs/Driven.antt` and `specs/Bounds.antt`, which
-//! say what is promised.
+//! and the given durations of attempts.
+//! Start with `specs/Driven.antt` and `specs/Bounds.antt`, which say what is promised.
 //!
 //! ```rust
 //! let schedule = zs_term::read(alloc, "(exponential(100) && recurs(5))")?;
