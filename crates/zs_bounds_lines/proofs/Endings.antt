@@ -1,16 +1,14 @@
 -- One line after another, and how a run ends after some lines.
-use Rattle.std.proofs.Common.{◌≡◌, ◌≤◌, ◌+◌, ℕ, List, [], ◌∷◌, ◌++◌, length, take, Bool, true, false, Ok, Err, Option, None, Some, refl, sym, ap, ◌∙◌, append-nil, length-append, arith, subst}
+use Rattle.std.proofs.Common.{◌≡◌, ◌+◌, ℕ, List, [], ◌∷◌, ◌++◌, take, Bool, true, false, Ok, Err, Option, refl, sym, ap, ◌∙◌, append-nil, length-append, subst}
 use Rattle.std.specs.Io.KnownBytes.{Appends, IsAtEnd, prepend_known}
 use Rattle.std.proofs.KnownBytes.{Appends-nil, Appends-trans}
-use Rattle.zs_run.specs.Headline.{Reading, Writing}
-use Rattle.zs_lines.specs.Buffers.{BeginsWith, Took}
+use Rattle.zs_run.specs.Headline.{Writing}
+use Rattle.zs_lines.specs.Buffers.{Took}
 use Rattle.zs_lines.proofs.LineLemmas.{all-read, begins, took-more, took-nothing}
-use Rattle.zs_bounds_lines.specs.BoundsLines.{bounds_lines, line_text}
 use Rattle.zs_bounds_lines.specs.Ending.{Ends, IsWhole, Wrote}
-use Rattle.zs_bounds_lines.specs.Policies.{policy_of}
 use Rattle.zs_bounds_lines.specs.Steps.{IsDone, IsNoPolicy, LineEnds}
 use Rattle.zs_bounds_lines.specs.declared.fault.BoundsFault.{BoundsFault}
-use Rattle.zs_bounds_lines.specs.declared.fault.BoundsFault.TheVariants.{Read, Line, Memory, Write}
+use Rattle.zs_bounds_lines.specs.declared.fault.BoundsFault.TheVariants.{Read, Line, Memory, Write, Words}
 use Rattle.zs_bounds_lines.specs.declared.options.Options.{Options}
 use Rattle.zs_bounds_lines.proofs.TextLemmas.{lines-more, lines-refused, no-lines, one-line}
 
@@ -25,6 +23,7 @@ refused options number line Read before failed flushed U isnt clear same = absur
 refused options number line (Line at fault) before failed flushed U isnt clear same = (clear, same, isnt.0, isnt.1)
 refused options number line Memory before failed flushed U isnt clear same = (clear, same)
 refused options number line Write before failed flushed U isnt clear same = absurd isnt
+refused options number line (Words fault) before failed flushed U isnt clear same = absurd isnt
 
 -- a text after a text
 whole-more : (xs ys : List ℕ) (flushed now : Bool) (U V W : Type 0) → IsWhole xs flushed U → IsWhole ys now V
@@ -101,6 +100,7 @@ module _ (options : Options) (ahead mid : Option (List ℕ)) (count : ℕ) (befo
     )
     ends-at Memory left unread clear ends =
         (clear, ends.0, (done.lines, begins ahead mid done.lines done.read, wrote-same ends.1))
+    ends-at (Words fault) left unread clear ends = absurd ends
     ends-at Write left unread clear ends = (
       clear,
       ends.0,

@@ -1,3 +1,4 @@
 pub mod PolicyLemmas
 pub mod TextLemmas
 pub mod Endings
+pub mod WordLemmas

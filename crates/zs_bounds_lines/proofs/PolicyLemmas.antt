@@ -1,5 +1,5 @@
 -- The policy of a line, by its parts.
-use Rattle.std.proofs.Common.{◌≡◌, ◌==◌, ℕ, List, [], ◌∷◌, ◌++◌, Bool, true, false, Result, Ok, Err, Option, None, Some, if◌then◌else◌, refl, sym, ap, ◌∙◌}
+use Rattle.std.proofs.Common.{◌≡◌, ◌==◌, ℕ, List, [], ◌∷◌, ◌++◌, Bool, true, false, Result, Ok, Err, None, if◌then◌else◌, refl, sym, ap, ◌∙◌}
 use Rattle.std.specs.Prelude.{IsUtf8}
 use Rattle.std.specs.Str.{is_utf8}
 use Rattle.std.proofs.lemmas.Bool.{eqb-true}
@@ -8,8 +8,7 @@ use Rattle.zs_term.specs.Schedule.{Schedule}
 use Rattle.zs_term.specs.Verdict.{verdict_of}
 use Rattle.zs_term.specs.declared.fault.TermFault.{TermFault}
 use Rattle.zs_bounds_lines.specs.Policies.{is_passed_over, judged, policy_in, policy_of, without_return}
-use Rattle.zs_bounds_lines.specs.declared.fault.PolicyFault.{PolicyFault}
-use Rattle.zs_bounds_lines.specs.declared.fault.PolicyFault.TheVariants.{NotUtf8, Term}
+use Rattle.zs_bounds_lines.specs.declared.fault.PolicyFault.TheVariants.{NotUtf8}
 
 -- ---- the text of a line
 

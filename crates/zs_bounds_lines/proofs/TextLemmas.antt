@@ -1,5 +1,5 @@
 -- What is written for lines that are put together.
-use Rattle.std.proofs.Common.{◌≡◌, ℕ, List, [], ◌∷◌, ◌++◌, Result, Ok, Err, Option, None, Some, refl, sym, ap, ◌∙◌, append_assoc, append-nil}
+use Rattle.std.proofs.Common.{◌≡◌, ℕ, List, [], ◌∷◌, ◌++◌, Result, Ok, Err, refl, sym, ap, ◌∙◌, append_assoc, append-nil}
 use Rattle.zs_bounds_lines.specs.BoundsLines.{bounds_lines, line_text, ◌>>=◌}
 use Rattle.zs_bounds_lines.specs.Policies.{policy_of}
 use Rattle.zs_bounds_lines.specs.declared.fault.PolicyFault.{PolicyFault}

@@ -1,13 +1,13 @@
 -- How a run over lines ends: for success and each fault, what was read, what was written, and which
 -- of the two failed.
-use Rattle.std.specs.Prelude.{◌≡◌, ◌≤◌, ℕ, ◌+◌, List, [], ◌∷◌, ◌++◌, length, take, Bool, true, false, Option, Some, Result, Ok, Err, IfSome}
+use Rattle.std.specs.Prelude.{◌≡◌, ◌≤◌, ℕ, ◌+◌, List, [], ◌∷◌, ◌++◌, length, take, Bool, true, false, Some, Result, Ok, Err, IfSome}
 use Rattle.std.specs.Io.KnownBytes.{Appends}
 use Rattle.zs_run.specs.Headline.{Reading, Writing}
 use Rattle.zs_lines.specs.Buffers.{BeginsWith}
 use Rattle.zs_lines.specs.Lines.{lines_of}
 use Rattle.zs_bounds_lines.specs.BoundsLines.{bounds_lines}
 use Rattle.zs_bounds_lines.specs.declared.fault.BoundsFault.{BoundsFault}
-use Rattle.zs_bounds_lines.specs.declared.fault.BoundsFault.TheVariants.{Read, Line, Memory, Write}
+use Rattle.zs_bounds_lines.specs.declared.fault.BoundsFault.TheVariants.{Read, Line, Memory, Write, Words}
 use Rattle.zs_bounds_lines.specs.declared.options.Options.{Options}
 
 -- what is seen of the writer after a text: it was flushed, or it is unchanged if there is no text
@@ -52,3 +52,4 @@ Ends options (Err Memory) r w Untouched =
     (r.failed ≡ false) × (w.failed ≡ false) × Began r (λ lines. Wrote options lines w Untouched)
 Ends options (Err Write) r w Untouched =
     (r.failed ≡ false) × (w.failed ≡ true) × BeganUpTo r (λ before line. WrotePart options before line w)
+Ends options (Err (Words fault)) r w Untouched = ⊥

@@ -18,6 +18,20 @@ pub enum PolicyFault {
     Term(TermFault),
 }
 
+/// Why the words of a command line are wrong.
+#[derive(Clone, Copy, Debug, PartialEq, Eq, Error)]
+pub enum OptionFault {
+    /// There is no such option.
+    #[error("unknown option; see --help")]
+    Unknown,
+    /// The value of `--steps` is missing, or isn't a number of 64 bits.
+    #[error("--steps needs a whole number")]
+    Steps,
+    /// The value of `--attempt` is missing, or isn't a duration or two of them in order.
+    #[error("--attempt needs durations, as 5s or 20ms..5s")]
+    Attempt,
+}
+
 /// Why a run stopped. Whole lines were written, unless the writer failed.
 #[derive(Clone, Copy, Debug, PartialEq, Eq, Error)]
 pub enum BoundsFault {
@@ -38,22 +52,24 @@ pub enum BoundsFault {
     /// The writer failed. All lines of JSON before the last one went out whole.
     #[error("write failed")]
     Write,
+    /// The words of the command line are wrong. Nothing was read or written.
+    #[error(transparent)]
+    Words(OptionFault),
 }
 
-/// The exit status of a program that ended by the fault: 2 for a rejected line, 3 if reading or
-/// writing failed, 4 without memory.
+/// The exit status of a program that ended by the fault: 2 for a rejected line or wrong words, 3 if
+/// reading or writing failed, 4 without memory.
 pub fn status(fault: &BoundsFault) -> u8
     ensures value { result ≡ status_of fault.now }
 {
     match fault {
-        BoundsFault::Line { .. } => 2,
+        BoundsFault::Line { .. } | BoundsFault::Words(_) => 2,
         BoundsFault::Read | BoundsFault::Write => 3,
         BoundsFault::Memory => 4,
     }
 }
 
-/// The exit code of a program whose run ended so: 0 if all lines were read, else the status of the
-/// fault.
+/// The exit code of a program that ended so: 0 at success, else the status of the fault.
 pub fn exit_code(ended: &Result<(), BoundsFault>) -> ExitCode
     ensures value { exit_status result ≡ exit_status_of ended.now }
 {

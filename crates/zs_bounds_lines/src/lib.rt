@@ -1,8 +1,9 @@
 //! Bounds of policies, from lines of text to lines of JSON.
 //!
 //! `run_bounds` writes `bounds_lines` of the lines that it reads (`specs/BoundsLines.antt`): for
-//! each policy its bounds, flushed before the next line is read. A rejected line is reported by its
-//! number, after the lines before it were written. Begin with `specs/Ending.antt`.
+//! each policy its bounds, flushed before the next line is read. A rejected line is reported by
+//! its number, after the lines before it were written. `run_words` does what the words of a
+//! command line say. Begin with `specs/Ending.antt`.
 //!
 //! ```rust
 //! let mut reader = Marked::new(policies);
@@ -16,8 +17,12 @@ mod fault;
 mod json;
 mod options;
 mod policy;
+mod program;
 mod running;
+mod words;
 
-pub use fault::{BoundsFault, PolicyFault, exit_code, status};
+pub use fault::{BoundsFault, OptionFault, PolicyFault, exit_code, status};
 pub use options::Options;
+pub use program::run_words;
 pub use running::run_bounds;
+pub use words::Request;

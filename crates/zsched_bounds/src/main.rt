@@ -1,23 +1,29 @@
 //! Reads policies from standard input, a line each. Writes what each does for every input to
 //! standard output, as a line of JSON.
 //!
-//! A fault is printed to standard error. The exit status is 2 for a rejected line, 3 if reading or
-//! writing failed, 4 without memory.
+//! A fault is printed to standard error. The exit status is 2 for a rejected line or wrong words, 3
+//! if reading or writing failed, 4 without memory.
 #![tactic(auto)]
 
+use std::env;
 use std::process::ExitCode;
-use zs_bounds::Durations;
-use zs_bounds_lines::{Options, exit_code, run_bounds};
+use std::rt::Env;
+use zs_bounds_lines::{BoundsFault, OptionFault, exit_code, run_words};
 use zs_run::Marked;
+
+// The words after the program's name, if they are text.
+fn words(rt: &(impl Env + AllocGlobal)) -> Option<Vec<String>> {
+    let words = env::args(rt).ok()?;
+    words.skip(1).collect(rt.alloc()).ok()
+}
 
 fn main(rt: HostRuntime) -> ExitCode {
     let mut reader = Marked::new(rt.stdin());
     let mut writer = Marked::new(rt.stdout());
-    let options = Options {
-        attempt: Durations::any(),
-        steps: 20_000,
+    let ended = match words(&rt) {
+        Some(words) => run_words(rt.alloc(), words.as_slice(), &mut reader, &mut writer),
+        None => Err(BoundsFault::Words(OptionFault::Unknown)),
     };
-    let ended = run_bounds(rt.alloc(), options, &mut reader, &mut writer);
     if let Err(fault) = &ended {
         // If standard error fails too, nothing more can be done.
         let _ = eprintln!(rt; "zsched-bounds: {fault}");

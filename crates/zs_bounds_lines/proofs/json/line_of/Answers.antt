@@ -1,4 +1,4 @@
-use Rattle.std.proofs.Common.{◌≡◌, ◌++◌, ℕ, List, ap, ◌∙◌}
+use Rattle.std.proofs.Common.{◌++◌, ℕ, List, ap, ◌∙◌}
 use Rattle.zs_term.specs.Canonical.{canonical_text}
 use Rattle.zs_term.specs.Schedule.{schedule_of}
 use Rattle.zs_bounds_lines.specs.BoundsLines.{json_line}

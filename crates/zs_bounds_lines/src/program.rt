@@ -1,0 +1,77 @@
+//! The program, by the words of its command line.
+ghost use Rattle.std.specs.Prelude.{◌≡◌, false, map, string_bytes};
+ghost use Rattle.zs_bounds_lines.specs.Words.{ProgramEnds, WroteText, request_from, usual_options};
+
+use crate::fault::BoundsFault;
+use crate::options::Options;
+use crate::running::run_bounds;
+use crate::words::{Request, request_from};
+use std::alloc::Global;
+use zs_bounds::Durations;
+use zs_run::{Drain, Source, write_all};
+
+const VERSION: &str = "zsched-bounds 0.3.0\n";
+
+const HELP: &str = "usage: zsched-bounds [--attempt [LEAST..]MOST] [--steps N] < POLICIES
+
+Reads a policy a line, and writes what is proved of each as a line of JSON.
+Empty lines, and lines that begin with #, are passed over.
+
+  --attempt 20ms..5s  how long an attempt takes; 5s is at most 5 s (ms, s, m, h)
+  --steps N           looks at no more than N steps of each policy (20000)
+  --help              prints this
+  --version           prints the version
+";
+
+// Writes a text and flushes.
+fn print<W: Drain>(writer: &mut W, text: &str) -> Result<(), BoundsFault>
+    requires clear { W.mark writer.old ≡ false }
+    ensures text { WroteText text.now result
+        (record {
+          before = W.contents writer.old;
+          taken = W.contents writer.new;
+          failed = W.mark writer.new;
+          flushed = W.flushed writer.new;
+        }) }
+{
+    match write_all(writer, text.as_bytes()) {
+        Ok(()) => Ok(()),
+        Err(_) => Err(BoundsFault::Write),
+    }
+}
+
+/// Does what the words after the program's name say.
+pub fn run_words<R: Source, W: Drain>(
+    alloc: Global,
+    words: &[String],
+    reader: &mut R,
+    writer: &mut W,
+) -> Result<(), BoundsFault>
+    requires reader_clear { R.mark reader.old ≡ false }
+    requires writer_clear { W.mark writer.old ≡ false }
+
+    ensures ends { ProgramEnds (request_from usual_options (map string_bytes words.now)) result
+        (record {
+          before = R.remaining reader.old;
+          left = R.remaining reader.new;
+          failed = R.mark reader.new;
+        })
+        (record {
+          before = W.contents writer.old;
+          taken = W.contents writer.new;
+          failed = W.mark writer.new;
+          flushed = W.flushed writer.new;
+        })
+        (writer.new ≡ writer.old) }
+{
+    let usual = Options {
+        attempt: Durations::any(),
+        steps: 20_000,
+    };
+    match request_from(usual, words) {
+        Ok(Request::Run(options)) => run_bounds(alloc, options, reader, writer),
+        Ok(Request::Help) => print(writer, HELP),
+        Ok(Request::Version) => print(writer, VERSION),
+        Err(fault) => Err(BoundsFault::Words(fault)),
+    }
+}
