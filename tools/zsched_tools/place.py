@@ -34,8 +34,7 @@ def in_file(name, text, cause):
 
 def place_lines(place, text, cause, paint):
     """The lines that show a cause in a text. The first line begins with `place`."""
-    number, begin = line_of(text, cause.at), text.rfind("\n", 0, cause.at) + 1
-    source, mark = excerpt(text, begin, cause)
+    number, source, mark = excerpt(text, cause)
     gutter = " " * len(str(number))
     yield f"{place}: {paint('strong', cause.what)}"
     yield f"{gutter} |"
@@ -61,12 +60,10 @@ def unpainted(_, text):
 def fault_lines(name, found, paint=unpainted):
     """The lines that show the place of an Explained fault."""
     text, cause = found.text, found.cause
-    number, begin = line_of(text, cause.at), text.rfind("\n", 0, cause.at) + 1
-    source, mark = excerpt(text, begin, cause)
+    number, source, mark = excerpt(text, cause)
     gutter, bar = " " * len(str(number)), paint("faint", "|")
-    place = f"{shown(name, WIDTH)}:{number}:{cause.at - begin + 1}"
     row = paint("faint", str(number))
-    lines = [f"{gutter}{paint('faint', '-->')} {place}", f"{gutter} {bar}", f"{row} {bar} {source}",
+    lines = [f"{gutter}{paint('faint', '-->')} {in_file(name, text, cause)}", f"{gutter} {bar}", f"{row} {bar} {source}",
              f"{gutter} {bar} {mark[:-len(mark.lstrip())]}{paint('bad', f'{mark.lstrip()} {cause.what}')}"]
     if cause.help:
         lines.append(f"{gutter} {paint('faint', '=')} {paint('help', 'help')}: {cause.help}")
@@ -75,8 +72,9 @@ def fault_lines(name, found, paint=unpainted):
     return "".join(line.rstrip() + "\n" for line in lines)
 
 
-def excerpt(text, begin, cause):
-    """The line of a cause, which starts at `begin`, cut if it is long, and the caret below it."""
+def excerpt(text, cause):
+    """The number of a cause's line, the line, cut if it is long, and the caret below it."""
+    begin = text.rfind("\n", 0, cause.at) + 1
     end = text.find("\n", cause.at)
     end = len(text) if end < 0 else end
     end -= text[cause.at:end].endswith("\r")
@@ -87,7 +85,7 @@ def excerpt(text, begin, cause):
         before = ".. " + before.lstrip()
     source = before + after + (" .." if last < end else "")
     size = max(1, min(cause.size, last - cause.at))
-    return source, " " * _columns(before) + "^" * max(1, _columns(after[:size]))
+    return line_of(text, cause.at), source, " " * _columns(before) + "^" * max(1, _columns(after[:size]))
 
 
 def _columns(text):
