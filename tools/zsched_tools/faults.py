@@ -3,9 +3,8 @@ import functools
 import re
 
 from zsched_tools import json_reading, not_json
-from zsched_tools.document_faults import DOCUMENT_FAULTS
-from zsched_tools.job_faults import JOB_FAULTS, schedule_fault, script_fault
 from zsched_tools.place import Cause
+from zsched_tools.plan_faults import DOCUMENT_FAULTS, JOB_FAULTS, schedule_fault, script_fault
 from zsched_tools.positions import Document
 from zsched_tools.program import MAX_BYTES
 

@@ -12,9 +12,9 @@ from zsched_tools.drawn import Policy
 from zsched_tools.durations import milliseconds
 from zsched_tools.hints import near
 from zsched_tools.place import Cause, FaultAt
+from zsched_tools.plan_faults import over
 from zsched_tools.positions import Document
 from zsched_tools.program import LAST_MOMENT
-from zsched_tools.values import over
 from zsched_tools.words import duration, listed, shown
 
 SKETCH = '{"horizon": "3min", "clients": {"number": 1000}, "policies": {"NAME": "SCHEDULE"}}'
