@@ -2,8 +2,8 @@
 use Rattle.std.proofs.Common.{◌≡◌, ℕ, Bool, true, false, ◌||◌, min, max, refl, sym, ap, ◌∙◌, arith}
 use Rattle.zs_term.specs.Schedule.{Schedule, leaf, two, over, both, either, and_then, while_input, while_output, collect_all, mapped, reset_when}
 use Rattle.zs_bounds.specs.declared.span.Span.{Span}
-use Rattle.zs_bounds.specs.declared.node.Fresh.{Fresh}
-use Rattle.zs_bounds.specs.declared.node.Fresh.TheVariants.{Nothing, Beside, Alone}
+use Rattle.zs_bounds.specs.declared.turns.Fresh.{Fresh}
+use Rattle.zs_bounds.specs.declared.turns.Fresh.TheVariants.{Nothing, Beside, Alone}
 use Rattle.zs_bounds.specs.Span.{span, hull}
 use Rattle.zs_bounds.specs.DecisionRange.{may_go_on}
 use Rattle.zs_bounds.specs.StateRange.{StateRange, counts, parts, turns, items, steps_in, time_in, first_in, second_in, is_first_on, is_second_on, items_in, part_in, first_range, first_state, with_first, begun, more_items}

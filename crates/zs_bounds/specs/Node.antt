@@ -1,19 +1,19 @@
 -- The schedule that a node was made of, the range of states that it has, and what it knows of first
 -- steps.
-use Rattle.std.specs.Prelude.{◌≡◌, Bool, true, false}
+use Rattle.std.specs.Prelude.{◌≡◌, Bool, true, false, if◌then◌else◌}
 use Rattle.zs_term.specs.Schedule.{Schedule, leaf, two, over, both, either, and_then, while_input, while_output, collect_all, mapped, reset_when}
 use Rattle.zs_bounds.specs.declared.decisions.Decisions.{Decisions}
 use Rattle.zs_bounds.specs.declared.span.Span.{Span}
-use Rattle.zs_bounds.specs.declared.node.Fresh.{Fresh}
-use Rattle.zs_bounds.specs.declared.node.Fresh.TheVariants.{Nothing, Beside, Alone}
-use Rattle.zs_bounds.specs.declared.node.Turn.{Turn}
-use Rattle.zs_bounds.specs.declared.node.Turns.{Turns}
+use Rattle.zs_bounds.specs.declared.turns.Fresh.{Fresh}
+use Rattle.zs_bounds.specs.declared.turns.Fresh.TheVariants.{Nothing, Beside, Alone}
+use Rattle.zs_bounds.specs.declared.turns.Turn.{Turn}
+use Rattle.zs_bounds.specs.declared.turns.Turns.{Turns}
 use Rattle.zs_bounds.specs.declared.node.Node.{Node}
 use Rattle.zs_bounds.specs.declared.node.Node.TheVariants.{Leaf, Both', Either', AndThen', WhileInput', WhileOutput', CollectAll', Map', ResetWhen'}
 use Rattle.zs_bounds.specs.Leaf.{bare_leaf}
 use Rattle.zs_bounds.specs.AnswerRange.{AnswerRange, range}
 use Rattle.zs_bounds.specs.OutRange.{output_range_of}
-use Rattle.zs_bounds.specs.StateRange.{StateRange, counts, parts, turns, items, first_range, first_state, with_first, next_range}
+use Rattle.zs_bounds.specs.StateRange.{StateRange, counts, parts, turns, items, first_range, first_state, with_first, next_range, next_state}
 
 -- the schedule that a node was made of
 abbrev pub node_schedule : Node → Schedule
@@ -69,9 +69,28 @@ part_state t a = fresh_state t.fresh (node_schedule a) (node_state a)
 abbrev pub turn_states : Turn → Turn → Node → Node → StateRange
 turn_states t u a b = turns t.is_on u.is_on (part_state t a) (part_state u b)
 
--- what the next step of two parts in turn may return
+-- ---- the next step, by the times up to it: what it may return, and the states after it
+
+-- of a node
+abbrev pub node_range : Node → Span → AnswerRange
+node_range n d = next_range (node_schedule n) (node_state n) d
+
+abbrev pub node_next : Node → Span → StateRange
+node_next n d = next_state (node_schedule n) (node_state n) d
+
+-- of a part whose turn it may be
+abbrev pub part_range : Turn → Node → Span → AnswerRange
+part_range t n d = next_range (node_schedule n) (part_state t n) d
+
+abbrev pub part_next : Turn → Node → Span → StateRange
+part_next t n d = if t.is_on then next_state (node_schedule n) (part_state t n) d else part_state t n
+
+-- of two parts in turn
 abbrev pub turns_range : Turns → Node → Node → Span → AnswerRange
 turns_range t a b d = next_range (two and_then (node_schedule a) (node_schedule b)) (turn_states t.first t.second a b) d
+
+abbrev pub turns_next : Turns → Node → Node → Span → StateRange
+turns_next t a b d = next_state (two and_then (node_schedule a) (node_schedule b)) (turn_states t.first t.second a b) d
 
 -- ---- what first steps may return: of both parts in turn, of a part that is collected, and of a
 -- ---- part that may be reset
@@ -112,3 +131,14 @@ firsts_of (over s (reset_when k t)) = reset_firsts (first_range s) (firsts_of s)
 -- a node has them right
 abbrev pub KnowsFirsts : Node → Type 0
 KnowsFirsts n = node_firsts n ≡ firsts_of (node_schedule n)
+
+-- ---- what a step leaves unchanged
+
+-- a node's schedule, and what it knows of first steps
+abbrev pub SameNode : Node → Node → Type 0
+SameNode n m = (node_schedule m ≡ node_schedule n) × (node_firsts m ≡ node_firsts n)
+
+-- what two parts in turn know of first steps
+abbrev pub SameTurns : Turns → Turns → Type 0
+SameTurns t u =
+    (u.first.begins ≡ t.first.begins) × (u.second.begins ≡ t.second.begins) × (output_range_of u.start ≡ output_range_of t.start)

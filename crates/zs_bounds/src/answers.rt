@@ -7,7 +7,7 @@ ghost use Rattle.zs_bounds.specs.OutputRange.{pairs};
 ghost use Rattle.zs_bounds.specs.AnswerRange.{range, answer_hull, no_answer, left_range, right_range, test_range};
 
 use crate::decisions::Decisions;
-use crate::ranges::{OutRange, hull, make_pairs, make_sides, may_fail, may_pass};
+use crate::ranges::{OutRange, join, make_pairs, make_sides, may_fail, may_pass};
 use crate::span::Span;
 use std::alloc::{AllocError, Global};
 use zs_term::Test;
@@ -28,9 +28,10 @@ pub(crate) fn answer_hull(first: Answer, second: Answer) -> Answer
         ≡ answer_hull (range (output_range_of first.0) first.1)
         (range (output_range_of second.0) second.1) }
 {
-    let (x, d) = first;
+    let (mut x, d) = first;
     let (y, e) = second;
-    (hull(x, y), d.hull(e))
+    join(&mut x, y);
+    (x, d.hull(e))
 }
 
 // Pairs of the outputs of two parts, with a decision.

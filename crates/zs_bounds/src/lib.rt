@@ -26,6 +26,7 @@ mod reads;
 mod span;
 mod stepping;
 mod told;
+mod turns;
 
 pub use bounding::bounds;
 pub use durations::Durations;

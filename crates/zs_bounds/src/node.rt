@@ -1,134 +1,22 @@
 //! The states in which a schedule may be: intervals in place of a state's numbers.
 
-ghost use Rattle.std.specs.Prelude.{◌≡◌, ◌||◌, true, false, IfOk};
+ghost use Rattle.std.specs.Prelude.{◌≡◌, true, IfOk};
 ghost use Rattle.zs_term.specs.Schedule.{schedule_of, leaf, two, over, and_then, collect_all, reset_when};
 ghost use Rattle.zs_step.specs.Memory.{is_leaf};
 ghost use Rattle.zs_bounds.specs.OutRange.{output_range_of};
 ghost use Rattle.zs_bounds.specs.AnswerRange.{range, any_input};
 ghost use Rattle.zs_bounds.specs.StateRange.{first_range, first_turn, first_state, with_first, more_items, begun};
 ghost use Rattle.zs_bounds.specs.Leaf.{bare_leaf};
-ghost use Rattle.zs_bounds.specs.Node.{node_schedule, node_state, fresh_state, fresh_added, turn_of, node_firsts, KnowsFirsts};
-ghost use Rattle.zs_bounds.specs.declared.node.Fresh.TheVariants.{Nothing, Alone};
+ghost use Rattle.zs_bounds.specs.Node.{node_schedule, node_state, fresh_state, KnowsFirsts, SameNode};
 
 use crate::answers::{Answer, answer_hull, left_range, no_answer, paired, right_range, tested};
 use crate::decisions::Decisions;
 use crate::leaves::{Leaf, leaf_range};
 use crate::ranges::{OutRange, applied, picked_span};
 use crate::span::Span;
+use crate::turns::{Fresh, ResetRule, Turn, Turns};
 use std::alloc::{AllocError, Global};
 use zs_term::{Func, Pick, Term, Test};
-
-// What the states of a part still lack: nothing, the state after the first step beside them, or
-// that state in their place.
-#[derive(Clone, Copy)]
-pub(crate) enum Fresh {
-    Nothing,
-    Beside,
-    Alone,
-}
-
-// One of two parts in turn: whether it may be on, what its first step may decide, and what its
-// states still lack.
-#[derive(Clone, Copy)]
-pub(crate) struct Turn {
-    pub(crate) is_on: bool,
-    pub(crate) begins: Decisions,
-    pub(crate) fresh: Fresh,
-}
-
-// Two parts in turn, and what the second's first step may return as its output. What is read of the
-// second's output is stored until the next step, which writes to the same memory.
-#[derive(Drop)]
-pub(crate) struct Turns {
-    pub(crate) first: Turn,
-    pub(crate) second: Turn,
-    pub(crate) start: OutRange,
-    pub(crate) made: OutRange,
-}
-
-impl Turns {
-    // Whether one of the parts may be on.
-    pub(crate) fn may_be_on(&self) -> bool
-        ensures value { result ≡ (self.now.first.is_on || self.now.second.is_on) }
-    {
-        self.first.is_on || self.second.is_on
-    }
-}
-
-// When a part is reset.
-#[derive(Clone, Copy)]
-pub(crate) struct ResetRule {
-    pub(crate) pick: Pick,
-    pub(crate) test: Test,
-}
-
-impl Turn {
-    // A part that is not on.
-    fn of(begins: Decisions) -> Turn
-        ensures value { result ≡ turn_of false begins Nothing }
-    {
-        Turn {
-            is_on: false,
-            begins,
-            fresh: Fresh::Nothing,
-        }
-    }
-
-    // A part that is only at its first step, if it may be on.
-    fn begin(self, is_on: bool) -> Turn
-        ensures value { result ≡ turn_of is_on self.begins Alone }
-    {
-        Turn {
-            is_on,
-            begins: self.begins,
-            fresh: Fresh::Alone,
-        }
-    }
-
-    // A part that may also be at its first step, if it may begin.
-    pub(crate) fn add_first(self, begins: bool) -> Turn
-        ensures value { result
-            ≡ turn_of (self.is_on || begins) self.begins
-            (fresh_added begins self.is_on self.fresh) }
-    {
-        Turn {
-            is_on: self.is_on || begins,
-            begins: self.begins,
-            fresh: self.fresh.add_first(begins, self.is_on),
-        }
-    }
-
-    // A part whose states lack nothing.
-    pub(crate) fn step(self, is_on: bool) -> Turn
-        ensures value { result ≡ turn_of is_on self.begins Nothing }
-    {
-        Turn {
-            is_on,
-            begins: self.begins,
-            fresh: Fresh::Nothing,
-        }
-    }
-}
-
-impl Fresh {
-    // What is lacking if the part may also begin. Its first step is its only state if it was not
-    // on.
-    fn add_first(self, begins: bool, is_on: bool) -> Fresh
-        ensures value { result ≡ fresh_added begins is_on self }
-    {
-        if !begins {
-            return self;
-        }
-        if !is_on {
-            return Fresh::Alone;
-        }
-        match self {
-            Fresh::Nothing => Fresh::Beside,
-            Fresh::Beside => Fresh::Beside,
-            Fresh::Alone => Fresh::Alone,
-        }
-    }
-}
 
 // A node with the states of its parts.
 #[derive(Drop)]
@@ -377,8 +265,7 @@ pub(crate) fn more_items(decision: Decisions, items: Span) -> Span
 pub(crate) fn begin(node: &mut Node)
     requires firsts { KnowsFirsts node.old }
     ensures state { node_state node.new ≡ first_state (node_schedule node.old) }
-    ensures same { node_schedule node.new ≡ node_schedule node.old }
-    ensures firsts { node_firsts node.new ≡ node_firsts node.old }
+    ensures same { SameNode node.old node.new }
 {
     match node {
         Node::Leaf { steps, time, .. } => {
@@ -419,8 +306,7 @@ pub(crate) fn widen(node: &mut Node)
     requires firsts { KnowsFirsts node.old }
     ensures state { node_state node.new
         ≡ with_first (node_schedule node.old) (node_state node.old) }
-    ensures same { node_schedule node.new ≡ node_schedule node.old }
-    ensures firsts { node_firsts node.new ≡ node_firsts node.old }
+    ensures same { SameNode node.old node.new }
 {
     match node {
         Node::Leaf { steps, time, .. } => {
@@ -462,8 +348,7 @@ pub(crate) fn add_first(begins: bool, is_on: bool, node: &mut Node)
     ensures state { node_state node.new
         ≡ begun begins is_on (with_first (node_schedule node.old) (node_state node.old))
         (first_state (node_schedule node.old)) (node_state node.old) }
-    ensures same { node_schedule node.new ≡ node_schedule node.old }
-    ensures firsts { node_firsts node.new ≡ node_firsts node.old }
+    ensures same { SameNode node.old node.new }
 {
     if !begins {
         return;
@@ -476,8 +361,7 @@ pub(crate) fn refresh(fresh: Fresh, node: &mut Node)
     requires firsts { KnowsFirsts node.old }
     ensures state { node_state node.new
         ≡ fresh_state fresh (node_schedule node.old) (node_state node.old) }
-    ensures same { node_schedule node.new ≡ node_schedule node.old }
-    ensures firsts { node_firsts node.new ≡ node_firsts node.old }
+    ensures same { SameNode node.old node.new }
 {
     match fresh {
         Fresh::Nothing => {}

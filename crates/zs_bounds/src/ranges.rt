@@ -1,12 +1,11 @@
 //! What a step may return as its output.
 
-ghost use Rattle.std.specs.Prelude.{◌≡◌, IfOk, OnOk};
+ghost use Rattle.std.specs.Prelude.{◌≡◌, IfOk};
 ghost use Rattle.zs_bounds.specs.OutputRange.{output_hull, numbers, pairs, sides, lists, number_span, size_span, first_range_in, second_range_in, picked_span, may_compare, opposite, may_pass, may_fail, numbers_in, merge_range, applied_range};
 ghost use Rattle.zs_bounds.specs.OutRange.{output_range_of};
 
 use crate::span::Span;
 use std::alloc::{AllocError, Global};
-use std::mem::replace;
 use zs_term::{Cmp, Func, Pick, Test};
 
 // A range of outputs: of numbers, pairs, sides of a choice, or lists by their number of items.
@@ -47,22 +46,6 @@ pub(crate) fn make_sides(
     Ok(OutRange::Sides(Box::new(alloc, left)?, Box::new(alloc, right)?))
 }
 
-// A range around two.
-#[cycle(hulls)]
-pub(crate) fn hull(first: OutRange, second: OutRange) -> OutRange
-    ensures value { output_range_of result
-        ≡ output_hull (output_range_of first) (output_range_of second) }
-{
-    match first {
-        OutRange::Nothing => second,
-        OutRange::Numbers(s) => numbers_hull(s, second),
-        OutRange::Pairs(a, b) => pairs_hull(a, b, second),
-        OutRange::Sides(a, b) => sides_hull(a, b, second),
-        OutRange::Lists(s) => lists_hull(s, second),
-        OutRange::Anything => OutRange::Anything,
-    }
-}
-
 // A range around a span of numbers and another range.
 fn numbers_hull(span: Span, second: OutRange) -> OutRange
     ensures value { output_range_of result ≡ output_hull (numbers span) (output_range_of second) }
@@ -88,48 +71,6 @@ fn lists_hull(span: Span, second: OutRange) -> OutRange
     }
 }
 
-// A range around pairs and another range.
-#[cycle(hulls)]
-fn pairs_hull(a: Box<OutRange>, b: Box<OutRange>, second: OutRange) -> OutRange
-    ensures value { output_range_of result
-        ≡ output_hull (pairs (output_range_of a.value) (output_range_of b.value))
-        (output_range_of second) }
-{
-    match second {
-        OutRange::Nothing => OutRange::Pairs(a, b),
-        OutRange::Pairs(c, d) => OutRange::Pairs(boxed_hull(a, c), boxed_hull(b, d)),
-        OutRange::Numbers(_) | OutRange::Sides(_, _) | OutRange::Lists(_) | OutRange::Anything =>
-            OutRange::Anything,
-    }
-}
-
-// A range around the sides of a choice and another range.
-#[cycle(hulls)]
-fn sides_hull(a: Box<OutRange>, b: Box<OutRange>, second: OutRange) -> OutRange
-    ensures value { output_range_of result
-        ≡ output_hull (sides (output_range_of a.value) (output_range_of b.value))
-        (output_range_of second) }
-{
-    match second {
-        OutRange::Nothing => OutRange::Sides(a, b),
-        OutRange::Sides(c, d) => OutRange::Sides(boxed_hull(a, c), boxed_hull(b, d)),
-        OutRange::Numbers(_) | OutRange::Pairs(_, _) | OutRange::Lists(_) | OutRange::Anything =>
-            OutRange::Anything,
-    }
-}
-
-// A range around two in the memory of the first.
-#[cycle(hulls)]
-fn boxed_hull(first: Box<OutRange>, second: Box<OutRange>) -> Box<OutRange>
-    ensures value { output_range_of result.value
-        ≡ output_hull (output_range_of first.value) (output_range_of second.value) }
-{
-    let mut first = first;
-    let inside = replace(&mut *first, OutRange::Nothing);
-    *first = hull(inside, Box::into_inner(second));
-    first
-}
-
 // A copy of a range.
 #[cycle(copying)]
 pub(crate) fn copied(alloc: Global, range: &OutRange) -> Result<OutRange, AllocError>
@@ -148,20 +89,19 @@ pub(crate) fn copied(alloc: Global, range: &OutRange) -> Result<OutRange, AllocE
 // Widens a range, so that it is around another one too.
 #[cycle(joining)]
 #[tactic(auto, using(crate::proofs::Reading::hull_nothing))]
-pub(crate) fn join(alloc: Global, range: &mut OutRange, other: &OutRange) -> Result<(), AllocError>
-    ensures value { OnOk result
-        (output_range_of range.new
-        ≡ output_hull (output_range_of range.old) (output_range_of other.now)) }
+pub(crate) fn join(range: &mut OutRange, other: OutRange)
+    ensures value { output_range_of range.new
+        ≡ output_hull (output_range_of range.old) (output_range_of other) }
 {
     match range {
-        OutRange::Nothing => *range = copied(alloc, other)?,
-        OutRange::Numbers(s) => *range = join_numbers(*s, other),
-        OutRange::Lists(s) => *range = join_lists(*s, other),
+        OutRange::Nothing => *range = other,
+        OutRange::Numbers(s) => *range = numbers_hull(*s, other),
+        OutRange::Lists(s) => *range = lists_hull(*s, other),
         OutRange::Pairs(a, b) => match other {
             OutRange::Nothing => {}
             OutRange::Pairs(c, d) => {
-                join(alloc, a, c)?;
-                join(alloc, b, d)?;
+                join(a, Box::into_inner(c));
+                join(b, Box::into_inner(d));
             }
             OutRange::Numbers(_)
             | OutRange::Sides(_, _)
@@ -171,8 +111,8 @@ pub(crate) fn join(alloc: Global, range: &mut OutRange, other: &OutRange) -> Res
         OutRange::Sides(a, b) => match other {
             OutRange::Nothing => {}
             OutRange::Sides(c, d) => {
-                join(alloc, a, c)?;
-                join(alloc, b, d)?;
+                join(a, Box::into_inner(c));
+                join(b, Box::into_inner(d));
             }
             OutRange::Numbers(_)
             | OutRange::Pairs(_, _)
@@ -180,34 +120,6 @@ pub(crate) fn join(alloc: Global, range: &mut OutRange, other: &OutRange) -> Res
             | OutRange::Anything => *range = OutRange::Anything,
         },
         OutRange::Anything => {}
-    }
-    Ok(())
-}
-
-// A span of numbers, widened.
-fn join_numbers(span: Span, other: &OutRange) -> OutRange
-    ensures value { output_range_of result
-        ≡ output_hull (numbers span) (output_range_of other.now) }
-{
-    match other {
-        OutRange::Nothing => OutRange::Numbers(span),
-        OutRange::Numbers(s) => OutRange::Numbers(span.hull(*s)),
-        OutRange::Pairs(_, _) | OutRange::Sides(_, _) | OutRange::Lists(_) | OutRange::Anything => {
-            OutRange::Anything
-        }
-    }
-}
-
-// A span of lengths of lists, widened.
-fn join_lists(span: Span, other: &OutRange) -> OutRange
-    ensures value { output_range_of result
-        ≡ output_hull (lists span) (output_range_of other.now) }
-{
-    match other {
-        OutRange::Nothing => OutRange::Lists(span),
-        OutRange::Lists(s) => OutRange::Lists(span.hull(*s)),
-        OutRange::Pairs(_, _) | OutRange::Sides(_, _) | OutRange::Numbers(_) | OutRange::Anything =>
-            OutRange::Anything,
     }
 }
 
@@ -356,7 +268,11 @@ fn merged(range: OutRange) -> OutRange
     ensures value { output_range_of result ≡ merge_range (output_range_of range) }
 {
     match range {
-        OutRange::Sides(a, b) => hull(Box::into_inner(a), Box::into_inner(b)),
+        OutRange::Sides(a, b) => {
+            let mut either = Box::into_inner(a);
+            join(&mut either, Box::into_inner(b));
+            either
+        }
         OutRange::Nothing => OutRange::Nothing,
         OutRange::Numbers(s) => OutRange::Numbers(s),
         OutRange::Pairs(a, b) => OutRange::Pairs(a, b),

@@ -228,7 +228,7 @@ pub(crate) fn join_read(
 {
     match reads {
         Reads::Nothing => Ok(()),
-        Reads::Whole => join(alloc, range, other),
+        Reads::Whole => join_copy(alloc, range, other),
         Reads::Parts(v, w) => match range {
             OutRange::Nothing => {
                 *range = copy_read(alloc, reads, other)?;
@@ -239,9 +239,9 @@ pub(crate) fn join_read(
                     join_read(alloc, v, a, c)?;
                     join_read(alloc, w, b, d)
                 }
-                _ => join(alloc, range, other),
+                _ => join_copy(alloc, range, other),
             },
-            _ => join(alloc, range, other),
+            _ => join_copy(alloc, range, other),
         },
         Reads::Sides(w) => match range {
             OutRange::Nothing => {
@@ -253,9 +253,19 @@ pub(crate) fn join_read(
                     join_read(alloc, w, a, c)?;
                     join_read(alloc, w, b, d)
                 }
-                _ => join(alloc, range, other),
+                _ => join_copy(alloc, range, other),
             },
-            _ => join(alloc, range, other),
+            _ => join_copy(alloc, range, other),
         },
     }
+}
+
+// Widens a range by a copy of another one.
+fn join_copy(alloc: Global, range: &mut OutRange, other: &OutRange) -> Result<(), AllocError>
+    ensures value { OnOk result
+        (output_range_of range.new
+        ≡ output_hull (output_range_of range.old) (output_range_of other.now)) }
+{
+    join(range, copied(alloc, other)?);
+    Ok(())
 }

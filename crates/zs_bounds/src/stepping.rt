@@ -1,22 +1,23 @@
 //! One step of all states in which a schedule may be.
 
 ghost use Rattle.std.specs.Prelude.{◌≡◌, ◌&&◌, ◌||◌, IfOk, OnOk, if◌then◌else◌};
-ghost use Rattle.zs_term.specs.Schedule.{two, over, and_then, while_input, while_output, collect_all, mapped, reset_when};
+ghost use Rattle.zs_term.specs.Schedule.{over, while_input, while_output, collect_all, mapped, reset_when};
 ghost use Rattle.zs_bounds.specs.OutRange.{output_range_of};
 ghost use Rattle.zs_bounds.specs.Leaf.{bare_leaf};
 ghost use Rattle.zs_bounds.specs.OutputRange.{pairs, sides, merge_range};
 ghost use Rattle.zs_bounds.specs.AnswerRange.{range, answers_if, leaf_range, left_range, right_range};
-ghost use Rattle.zs_bounds.specs.DecisionRange.{may_go_on, both_decide, either_decides, no_decision};
+ghost use Rattle.zs_bounds.specs.DecisionRange.{may_go_on, no_decision};
 ghost use Rattle.zs_bounds.specs.StateRange.{items, first_range, next_range, next_state, more_steps, more_time};
-ghost use Rattle.zs_bounds.specs.Node.{node_schedule, node_state, part_state, turn_states, turns_range, turn_of, fresh_added, node_firsts, KnowsFirsts};
+ghost use Rattle.zs_bounds.specs.Node.{node_schedule, node_state, node_range, node_next, part_state, part_range, part_next, turn_states, turns_range, turns_next, turn_of, fresh_added, KnowsFirsts, SameNode, SameTurns};
 ghost use Rattle.zs_bounds.specs.Reads.{Shows, range_if, left_range_in, right_range_in};
 
 use crate::decisions::Decisions;
 use crate::leaves::{Leaf, leaf_range};
-use crate::node::{Node, ResetRule, Turn, Turns, add_first, any_input, more_items, refresh};
+use crate::node::{Node, add_first, any_input, more_items, refresh};
 use crate::ranges::{OutRange, make_pairs, may_fail, may_pass, picked_span};
 use crate::reads::{Reads, join_read};
 use crate::span::Span;
+use crate::turns::{ResetRule, Turn, Turns};
 use std::alloc::{AllocError, Global};
 use std::mem::swap;
 use zs_term::{Func, Pick, Test};
@@ -31,21 +32,21 @@ pub(crate) fn step<'a>(
     out: &mut OutRange,
 ) -> Result<Decisions, AllocError>
     requires firsts { KnowsFirsts node.old }
-    ensures output { OnOk result
-        (Shows reads.now out.new
-        (next_range (node_schedule node.old) (node_state node.old) later).output) }
-    ensures decision { IfOk result (λ d.
-        d ≡ (next_range (node_schedule node.old) (node_state node.old) later).decision) }
-    ensures state { OnOk result
-        (node_state node.new
-        ≡ next_state (node_schedule node.old) (node_state node.old) later) }
-    ensures same { OnOk result (node_schedule node.new ≡ node_schedule node.old) }
-    ensures firsts { OnOk result (node_firsts node.new ≡ node_firsts node.old) }
+    ensures output { OnOk result (Shows reads.now out.new (node_range node.old later).output) }
+    ensures decision { IfOk result (λ d. d ≡ (node_range node.old later).decision) }
+    ensures state { OnOk result (node_state node.new ≡ node_next node.old later) }
+    ensures same { OnOk result (SameNode node.old node.new) }
 {
     match node {
         Node::Leaf { leaf, steps, time } => Ok(step_leaf(*leaf, steps, time, reads, later, out)),
-        Node::Both { first, second } => step_both(alloc, first, second, reads, later, out),
-        Node::Either { first, second } => step_either(alloc, first, second, reads, later, out),
+        Node::Both { first, second } => {
+            let (x, y) = step_pair(alloc, first, second, reads, later, out)?;
+            Ok(x.both(y))
+        }
+        Node::Either { first, second } => {
+            let (x, y) = step_pair(alloc, first, second, reads, later, out)?;
+            Ok(x.either(y))
+        }
         Node::AndThen {
             turns,
             first,
@@ -93,82 +94,6 @@ fn step_leaf(
     decision
 }
 
-// One step of both parts of `&&`.
-#[cycle(stepping)]
-fn step_both<'a>(
-    alloc: Global,
-    first: &mut Node,
-    second: &mut Node,
-    reads: &'a Reads<'a>,
-    later: Span,
-    out: &mut OutRange,
-) -> Result<Decisions, AllocError>
-    requires first_firsts { KnowsFirsts first.old }
-    requires second_firsts { KnowsFirsts second.old }
-    ensures output { OnOk result
-        (Shows reads.now out.new
-        (pairs
-        (next_range (node_schedule first.old) (node_state first.old) later).output
-        (next_range (node_schedule second.old) (node_state second.old) later).output)) }
-    ensures decision { IfOk result (λ d.
-        d
-        ≡ both_decide
-        (next_range (node_schedule first.old) (node_state first.old) later).decision
-        (next_range (node_schedule second.old) (node_state second.old) later).decision) }
-    ensures states { OnOk result
-        ((node_state first.new
-        ≡ next_state (node_schedule first.old) (node_state first.old) later)
-        × (node_state second.new
-        ≡ next_state (node_schedule second.old) (node_state second.old) later)) }
-    ensures same { OnOk result
-        ((node_schedule first.new ≡ node_schedule first.old)
-        × (node_schedule second.new ≡ node_schedule second.old)) }
-    ensures firsts { OnOk result
-        ((node_firsts first.new ≡ node_firsts first.old)
-        × (node_firsts second.new ≡ node_firsts second.old)) }
-{
-    let (x, y) = step_pair(alloc, first, second, reads, later, out)?;
-    Ok(x.both(y))
-}
-
-// One step of both parts of `||`.
-#[cycle(stepping)]
-fn step_either<'a>(
-    alloc: Global,
-    first: &mut Node,
-    second: &mut Node,
-    reads: &'a Reads<'a>,
-    later: Span,
-    out: &mut OutRange,
-) -> Result<Decisions, AllocError>
-    requires first_firsts { KnowsFirsts first.old }
-    requires second_firsts { KnowsFirsts second.old }
-    ensures output { OnOk result
-        (Shows reads.now out.new
-        (pairs
-        (next_range (node_schedule first.old) (node_state first.old) later).output
-        (next_range (node_schedule second.old) (node_state second.old) later).output)) }
-    ensures decision { IfOk result (λ d.
-        d
-        ≡ either_decides
-        (next_range (node_schedule first.old) (node_state first.old) later).decision
-        (next_range (node_schedule second.old) (node_state second.old) later).decision) }
-    ensures states { OnOk result
-        ((node_state first.new
-        ≡ next_state (node_schedule first.old) (node_state first.old) later)
-        × (node_state second.new
-        ≡ next_state (node_schedule second.old) (node_state second.old) later)) }
-    ensures same { OnOk result
-        ((node_schedule first.new ≡ node_schedule first.old)
-        × (node_schedule second.new ≡ node_schedule second.old)) }
-    ensures firsts { OnOk result
-        ((node_firsts first.new ≡ node_firsts first.old)
-        × (node_firsts second.new ≡ node_firsts second.old)) }
-{
-    let (x, y) = step_pair(alloc, first, second, reads, later, out)?;
-    Ok(x.either(y))
-}
-
 // One step of both parts of pairs: what is read of the pairs, and what each part may decide.
 #[cycle(stepping)]
 #[tactic(auto, using(crate::proofs::Reading::pairs_show))]
@@ -184,25 +109,14 @@ fn step_pair<'a>(
     requires second_firsts { KnowsFirsts second.old }
     ensures output { OnOk result
         (Shows reads.now out.new
-        (pairs
-        (next_range (node_schedule first.old) (node_state first.old) later).output
-        (next_range (node_schedule second.old) (node_state second.old) later).output)) }
+        (pairs (node_range first.old later).output (node_range second.old later).output)) }
     ensures decisions { IfOk result (λ r.
-        (r.0
-        ≡ (next_range (node_schedule first.old) (node_state first.old) later).decision)
-        × (r.1
-        ≡ (next_range (node_schedule second.old) (node_state second.old) later).decision)) }
+        (r.0 ≡ (node_range first.old later).decision)
+        × (r.1 ≡ (node_range second.old later).decision)) }
     ensures states { OnOk result
-        ((node_state first.new
-        ≡ next_state (node_schedule first.old) (node_state first.old) later)
-        × (node_state second.new
-        ≡ next_state (node_schedule second.old) (node_state second.old) later)) }
-    ensures same { OnOk result
-        ((node_schedule first.new ≡ node_schedule first.old)
-        × (node_schedule second.new ≡ node_schedule second.old)) }
-    ensures firsts { OnOk result
-        ((node_firsts first.new ≡ node_firsts first.old)
-        × (node_firsts second.new ≡ node_firsts second.old)) }
+        ((node_state first.new ≡ node_next first.old later)
+        × (node_state second.new ≡ node_next second.old later)) }
+    ensures same { OnOk result (SameNode first.old first.new × SameNode second.old second.new) }
 {
     if let Reads::Nothing = reads {
         let x = step(alloc, first, reads, later, out)?;
@@ -232,18 +146,13 @@ fn step_while_input<'a>(
     out: &mut OutRange,
 ) -> Result<Decisions, AllocError>
     requires firsts { KnowsFirsts part.old }
-    ensures output { OnOk result
-        (Shows reads.now out.new
-        (next_range (node_schedule part.old) (node_state part.old) later).output) }
+    ensures output { OnOk result (Shows reads.now out.new (node_range part.old later).output) }
     ensures decision { IfOk result (λ d.
         d
         ≡ (next_range (over (node_schedule part.old) (while_input test)) (node_state part.old)
         later).decision) }
-    ensures state { OnOk result
-        (node_state part.new
-        ≡ next_state (node_schedule part.old) (node_state part.old) later) }
-    ensures same { OnOk result (node_schedule part.new ≡ node_schedule part.old) }
-    ensures firsts { OnOk result (node_firsts part.new ≡ node_firsts part.old) }
+    ensures state { OnOk result (node_state part.new ≡ node_next part.old later) }
+    ensures same { OnOk result (SameNode part.old part.new) }
 {
     let x = step(alloc, part, reads, later, out)?;
     Ok(x.tested(may_pass(test, any_input()), may_fail(test, any_input())))
@@ -262,18 +171,13 @@ fn step_while_output<'a>(
     out: &mut OutRange,
 ) -> Result<Decisions, AllocError>
     requires firsts { KnowsFirsts part.old }
-    ensures output { OnOk result
-        (Shows reads.now out.new
-        (next_range (node_schedule part.old) (node_state part.old) later).output) }
+    ensures output { OnOk result (Shows reads.now out.new (node_range part.old later).output) }
     ensures decision { IfOk result (λ d.
         d
         ≡ (next_range (over (node_schedule part.old) (while_output pick test)) (node_state part.old)
         later).decision) }
-    ensures state { OnOk result
-        (node_state part.new
-        ≡ next_state (node_schedule part.old) (node_state part.old) later) }
-    ensures same { OnOk result (node_schedule part.new ≡ node_schedule part.old) }
-    ensures firsts { OnOk result (node_firsts part.new ≡ node_firsts part.old) }
+    ensures state { OnOk result (node_state part.new ≡ node_next part.old later) }
+    ensures same { OnOk result (SameNode part.old part.new) }
 {
     let (all, none, kept) = (Reads::Whole, Reads::Nothing, *reads);
     let made = kept.with_pick(pick, &all, &none);
@@ -297,15 +201,12 @@ fn step_collect_all<'a>(
         (Shows reads.now out.new
         (next_range (over (node_schedule part.old) collect_all)
         (items count.old (node_state part.old)) later).output) }
-    ensures decision { IfOk result (λ d.
-        d
-        ≡ (next_range (node_schedule part.old) (node_state part.old) later).decision) }
+    ensures decision { IfOk result (λ d. d ≡ (node_range part.old later).decision) }
     ensures state { OnOk result
         (items count.new (node_state part.new)
         ≡ next_state (over (node_schedule part.old) collect_all)
         (items count.old (node_state part.old)) later) }
-    ensures same { OnOk result (node_schedule part.new ≡ node_schedule part.old) }
-    ensures firsts { OnOk result (node_firsts part.new ≡ node_firsts part.old) }
+    ensures same { OnOk result (SameNode part.old part.new) }
 {
     let decision = step(alloc, part, &Reads::Nothing, later, out)?;
     let earlier = *count;
@@ -330,14 +231,9 @@ fn step_map<'a>(
         (Shows reads.now out.new
         (next_range (over (node_schedule part.old) (mapped func)) (node_state part.old)
         later).output) }
-    ensures decision { IfOk result (λ d.
-        d
-        ≡ (next_range (node_schedule part.old) (node_state part.old) later).decision) }
-    ensures state { OnOk result
-        (node_state part.new
-        ≡ next_state (node_schedule part.old) (node_state part.old) later) }
-    ensures same { OnOk result (node_schedule part.new ≡ node_schedule part.old) }
-    ensures firsts { OnOk result (node_firsts part.new ≡ node_firsts part.old) }
+    ensures decision { IfOk result (λ d. d ≡ (node_range part.old later).decision) }
+    ensures state { OnOk result (node_state part.new ≡ node_next part.old later) }
+    ensures same { OnOk result (SameNode part.old part.new) }
 {
     if let Func::Merge = func {
         if let Node::AndThen {
@@ -382,8 +278,7 @@ fn step_reset_when<'a>(
         (node_state part.new
         ≡ next_state (over (node_schedule part.old) (reset_when rule.pick rule.test))
         (node_state part.old) later) }
-    ensures same { OnOk result (node_schedule part.new ≡ node_schedule part.old) }
-    ensures firsts { OnOk result (node_firsts part.new ≡ node_firsts part.old) }
+    ensures same { OnOk result (SameNode part.old part.new) }
 {
     let (all, none, kept) = (Reads::Whole, Reads::Nothing, *reads);
     let made = kept.with_pick(rule.pick, &all, &none);
@@ -416,23 +311,12 @@ fn step_and_then<'a>(
         (Shows reads.now out.new
         (turns_range turns.old first.old second.old later).output) }
     ensures decision { IfOk result (λ d.
-        d
-        ≡ (turns_range turns.old first.old second.old later).decision) }
+        d ≡ (turns_range turns.old first.old second.old later).decision) }
     ensures state { OnOk result
         (turn_states turns.new.first turns.new.second first.new second.new
-        ≡ next_state (two and_then (node_schedule first.old) (node_schedule second.old))
-        (turn_states turns.old.first turns.old.second first.old second.old) later) }
-    ensures same { OnOk result
-        ((node_schedule first.new ≡ node_schedule first.old)
-        × (node_schedule second.new ≡ node_schedule second.old)) }
-    ensures firsts { OnOk result
-        ((node_firsts first.new ≡ node_firsts first.old)
-        × (node_firsts second.new ≡ node_firsts second.old)) }
-    ensures begins { OnOk result
-        ((turns.new.first.begins ≡ turns.old.first.begins)
-        × (turns.new.second.begins ≡ turns.old.second.begins)) }
-    ensures start { OnOk result
-        (output_range_of turns.new.start ≡ output_range_of turns.old.start) }
+        ≡ turns_next turns.old first.old second.old later) }
+    ensures same { OnOk result (SameNode first.old first.new × SameNode second.old second.new) }
+    ensures begins { OnOk result (SameTurns turns.old turns.new) }
 {
     if let Reads::Nothing = reads {
         return step_turns(alloc, turns, first, second, reads, later, out);
@@ -472,23 +356,12 @@ fn step_merged<'a>(
         (merge_range
         (turns_range turns.old first.old second.old later).output)) }
     ensures decision { IfOk result (λ d.
-        d
-        ≡ (turns_range turns.old first.old second.old later).decision) }
+        d ≡ (turns_range turns.old first.old second.old later).decision) }
     ensures state { OnOk result
         (turn_states turns.new.first turns.new.second first.new second.new
-        ≡ next_state (two and_then (node_schedule first.old) (node_schedule second.old))
-        (turn_states turns.old.first turns.old.second first.old second.old) later) }
-    ensures same { OnOk result
-        ((node_schedule first.new ≡ node_schedule first.old)
-        × (node_schedule second.new ≡ node_schedule second.old)) }
-    ensures firsts { OnOk result
-        ((node_firsts first.new ≡ node_firsts first.old)
-        × (node_firsts second.new ≡ node_firsts second.old)) }
-    ensures begins { OnOk result
-        ((turns.new.first.begins ≡ turns.old.first.begins)
-        × (turns.new.second.begins ≡ turns.old.second.begins)) }
-    ensures start { OnOk result
-        (output_range_of turns.new.start ≡ output_range_of turns.old.start) }
+        ≡ turns_next turns.old first.old second.old later) }
+    ensures same { OnOk result (SameNode first.old first.new × SameNode second.old second.new) }
+    ensures begins { OnOk result (SameTurns turns.old turns.new) }
 {
     let decision = step_turns(alloc, turns, first, second, reads, later, out)?;
     join_read(alloc, reads, out, &turns.made)?;
@@ -527,19 +400,9 @@ fn step_turns<'a>(
         d ≡ (turns_range turns.old first.old second.old later).decision) }
     ensures state { OnOk result
         (turn_states turns.new.first turns.new.second first.new second.new
-        ≡ next_state (two and_then (node_schedule first.old) (node_schedule second.old))
-        (turn_states turns.old.first turns.old.second first.old second.old) later) }
-    ensures same { OnOk result
-        ((node_schedule first.new ≡ node_schedule first.old)
-        × (node_schedule second.new ≡ node_schedule second.old)) }
-    ensures firsts { OnOk result
-        ((node_firsts first.new ≡ node_firsts first.old)
-        × (node_firsts second.new ≡ node_firsts second.old)) }
-    ensures begins { OnOk result
-        ((turns.new.first.begins ≡ turns.old.first.begins)
-        × (turns.new.second.begins ≡ turns.old.second.begins)) }
-    ensures start { OnOk result
-        (output_range_of turns.new.start ≡ output_range_of turns.old.start) }
+        ≡ turns_next turns.old first.old second.old later) }
+    ensures same { OnOk result (SameNode first.old first.new × SameNode second.old second.new) }
+    ensures begins { OnOk result (SameTurns turns.old turns.new) }
 {
     let (left, begins) = step_first(alloc, &mut turns.first, first, reads, later, out)?;
     let right = step_second(
@@ -570,35 +433,19 @@ fn step_first<'a>(
     ensures output { OnOk result
         (Shows reads.now out.new
         (range_if
-        (turn.old.is_on
-        && may_go_on
-        (next_range (node_schedule part.old) (part_state turn.old part.old) later).decision)
-        (next_range (node_schedule part.old) (part_state turn.old part.old) later).output)) }
+        (turn.old.is_on && may_go_on (part_range turn.old part.old later).decision)
+        (part_range turn.old part.old later).output)) }
     ensures decision { IfOk result (λ r.
         r.0
-        ≡ (answers_if turn.old.is_on
-        (left_range
-        (next_range (node_schedule part.old) (part_state turn.old part.old)
-        later))).decision) }
+        ≡ (answers_if turn.old.is_on (left_range (part_range turn.old part.old later))).decision) }
     ensures stops { IfOk result (λ r.
-        r.1
-        ≡ (turn.old.is_on
-        && (next_range (node_schedule part.old) (part_state turn.old part.old)
-        later).decision.stops)) }
+        r.1 ≡ (turn.old.is_on && (part_range turn.old part.old later).decision.stops)) }
     ensures on { OnOk result
         (turn.new.is_on
-        ≡ (turn.old.is_on
-        && may_go_on
-        (next_range (node_schedule part.old) (part_state turn.old part.old)
-        later).decision)) }
+        ≡ (turn.old.is_on && may_go_on (part_range turn.old part.old later).decision)) }
     ensures begins { OnOk result (turn.new.begins ≡ turn.old.begins) }
-    ensures state { OnOk result
-        (part_state turn.new part.new
-        ≡ (if turn.old.is_on
-        then next_state (node_schedule part.old) (part_state turn.old part.old) later
-        else part_state turn.old part.old)) }
-    ensures same { OnOk result (node_schedule part.new ≡ node_schedule part.old) }
-    ensures firsts { OnOk result (node_firsts part.new ≡ node_firsts part.old) }
+    ensures state { OnOk result (part_state turn.new part.new ≡ part_next turn.old part.old later) }
+    ensures same { OnOk result (SameNode part.old part.new) }
 {
     if !turn.is_on {
         *out = OutRange::Nothing;
@@ -627,23 +474,14 @@ fn step_second<'a>(
     requires firsts { KnowsFirsts part.old }
     ensures output { OnOk result
         (Shows reads.now out.new
-        (range_if turn.old.is_on
-        (next_range (node_schedule part.old) (part_state turn.old part.old) later).output)) }
+        (range_if turn.old.is_on (part_range turn.old part.old later).output)) }
     ensures decision { IfOk result (λ d.
         d
-        ≡ (answers_if turn.old.is_on
-        (right_range
-        (next_range (node_schedule part.old) (part_state turn.old part.old)
-        later))).decision) }
+        ≡ (answers_if turn.old.is_on (right_range (part_range turn.old part.old later))).decision) }
     ensures on { OnOk result (turn.new.is_on ≡ turn.old.is_on) }
     ensures begins { OnOk result (turn.new.begins ≡ turn.old.begins) }
-    ensures state { OnOk result
-        (part_state turn.new part.new
-        ≡ (if turn.old.is_on
-        then next_state (node_schedule part.old) (part_state turn.old part.old) later
-        else part_state turn.old part.old)) }
-    ensures same { OnOk result (node_schedule part.new ≡ node_schedule part.old) }
-    ensures firsts { OnOk result (node_firsts part.new ≡ node_firsts part.old) }
+    ensures state { OnOk result (part_state turn.new part.new ≡ part_next turn.old part.old later) }
+    ensures same { OnOk result (SameNode part.old part.new) }
 {
     if !turn.is_on {
         *out = OutRange::Nothing;

@@ -1,5 +1,5 @@
 use Rattle.std.proofs.Common.{◌||◌, ap, ◌∙◌}
-use Rattle.zs_bounds.specs.declared.node.Turn.{Turn}
+use Rattle.zs_bounds.specs.declared.turns.Turn.{Turn}
 use Rattle.zs_bounds.specs.AnswerRange.{AnswerRange}
 use Rattle.zs_bounds.specs.OutRange.{output_range_of}
 use Rattle.zs_bounds.specs.StateRange.{first_range, next_range}
