@@ -2,7 +2,7 @@
 -- and what the next step makes of them. `proofs/Covers.antt` says when a range of states covers a
 -- history. No reader has to believe this file, since `bounds_hold` says of its results what
 -- `Bounds` promises.
-use Rattle.std.specs.Prelude.{ℕ, ◌+◌, min, Bool, true, false, ◌&&◌, ◌||◌, if◌then◌else◌}
+use Rattle.std.specs.Prelude.{◌+◌, min, Bool, true, false, ◌&&◌, ◌||◌, if◌then◌else◌}
 use Rattle.zs_term.specs.Saturating.{saturated}
 use Rattle.zs_term.specs.Schedule.{Schedule, leaf, two, over, both, either, and_then, while_input, while_output, collect_all, mapped, reset_when}
 use Rattle.zs_bounds.specs.declared.span.Span.{Span}
