@@ -32,6 +32,8 @@ class Bounds:
 
     def attempts(self):
         """The attempts in words."""
+        if self.least > self.seen == MOST_STEPS:
+            return f"no end within {plural(self.seen, 'attempt')}"
         if self.most is None:
             return f"{self.least} or more attempts, no proved limit"
         if self.least == self.most:
