@@ -12,6 +12,7 @@ use Rattle.zs_bounds_lines.specs.declared.fault.BoundsFault.TheVariants.{Read, L
 use Rattle.zs_bounds_lines.specs.declared.fault.OptionFault.{OptionFault}
 use Rattle.zs_bounds_lines.specs.declared.fault.OptionFault.TheVariants.{Unknown, Steps, Attempt}
 use Rattle.zs_bounds_lines.specs.declared.options.Options.{Options}
+use Rattle.zs_bounds_lines.specs.declared.program.TheConstants.{HELP, VERSION}
 use Rattle.zs_bounds_lines.specs.declared.words.Request.{Request}
 use Rattle.zs_bounds_lines.specs.declared.words.Request.TheVariants.{Help, Version, Run}
 
@@ -120,7 +121,7 @@ WroteText text (Err (Words fault)) w = ⊥
 
 -- How the program ends, by its request.
 abbrev pub ProgramEnds : Result Request OptionFault → Result (Unit {0}) BoundsFault → Reading → Writing → Type 0 → Type 0
-ProgramEnds (Ok Help) result r w Untouched = (text : List ℕ) × WroteText text result w
-ProgramEnds (Ok Version) result r w Untouched = (text : List ℕ) × WroteText text result w
+ProgramEnds (Ok Help) result r w Untouched = WroteText HELP.now result w
+ProgramEnds (Ok Version) result r w Untouched = WroteText VERSION.now result w
 ProgramEnds (Ok (Run options)) result r w Untouched = Ends options result r w Untouched
 ProgramEnds (Err fault) result r w Untouched = (result ≡ Err (Words fault)) × Untouched
