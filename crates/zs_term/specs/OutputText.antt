@@ -1,5 +1,6 @@
 -- The text of outputs: numbers in decimal, pairs and lists with commas, and no spaces.
-use Rattle.std.specs.Prelude.{◌≡◌, ℕ, zero, suc, List, ◌++◌, [], codes, length, take}
+use Rattle.std.specs.Prelude.{◌≡◌, ℕ, zero, suc, List, ◌++◌, [], codes, length, take, string_bytes, String}
+use Rattle.std.specs.Global.{Global}
 use Rattle.std.specs.Fmt.{decimal}
 use Rattle.zs_term.specs.Output.{Output, Outputs, number, pair, left, right, listed, none, more}
 
@@ -30,3 +31,11 @@ comma_before (suc place) = codes ","
 -- the second text begins with the first
 abbrev pub IsBeginning : List ℕ → List ℕ → Type 0
 IsBeginning text whole = take (length text) whole ≡ text
+
+-- the new text is the old one with these bytes behind it
+abbrev pub Adds : String Global → String Global → List ℕ → Type 0
+Adds old new bytes = string_bytes new ≡ string_bytes old ++ bytes
+
+-- the new text begins with the old one
+abbrev pub Extends : String Global → String Global → Type 0
+Extends old new = IsBeginning (string_bytes old) (string_bytes new)

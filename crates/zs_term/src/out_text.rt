@@ -1,9 +1,9 @@
 //! The text of outputs.
 
-ghost use Rattle.std.specs.Prelude.{◌≡◌, ◌++◌, IfOk, OnOk, OnErr, string_bytes};
+ghost use Rattle.std.specs.Prelude.{◌≡◌, IfOk, OnOk, OnErr, string_bytes};
 ghost use Rattle.std.specs.Fmt.{decimal};
 ghost use Rattle.zs_term.specs.Output.{output_of, outputs_of, outs_list, listed};
-ghost use Rattle.zs_term.specs.OutputText.{output_text, outputs_text, comma_before, IsBeginning};
+ghost use Rattle.zs_term.specs.OutputText.{output_text, outputs_text, comma_before, Adds, Extends};
 
 use crate::outputs::{Out, Outs, Storage};
 use itoa::Buffer;
@@ -23,11 +23,10 @@ pub fn write_out(alloc: Global, out: &Out) -> Result<String, NoMemory>
 
 /// Appends the text of an output to a text. If that fails, the text is unchanged.
 pub fn append_out(text: &mut String, out: &Out) -> Result<(), NoMemory>
-    ensures ok { OnOk result
-        (string_bytes text.new ≡ string_bytes text.old ++ output_text (output_of out.now)) }
+    ensures ok { OnOk result (Adds text.old text.new (output_text (output_of out.now))) }
     ensures err { OnErr result (string_bytes text.new ≡ string_bytes text.old) }
     // The text so far stays at the front in any case.
-    ensures kept { IsBeginning (string_bytes text.old) (string_bytes text.new) }
+    ensures kept { Extends text.old text.new }
 {
     let len = text.len();
     let added = push_out(text, out);
@@ -41,9 +40,8 @@ pub fn append_out(text: &mut String, out: &Out) -> Result<(), NoMemory>
 #[tactic(auto, using(crate::proofs::Texts::begins_with_itself, crate::proofs::Texts::begins_pushed, crate::proofs::Texts::begins_both))]
 #[cycle(texts)]
 fn push_out(text: &mut String, out: &Out) -> Result<(), NoMemory>
-    ensures ok { OnOk result
-        (string_bytes text.new ≡ string_bytes text.old ++ output_text (output_of out.now)) }
-    ensures kept { IsBeginning (string_bytes text.old) (string_bytes text.new) }
+    ensures ok { OnOk result (Adds text.old text.new (output_text (output_of out.now))) }
+    ensures kept { Extends text.old text.new }
 {
     match out {
         Out::Num(n) => append_number(text, *n),
@@ -71,8 +69,8 @@ fn push_out(text: &mut String, out: &Out) -> Result<(), NoMemory>
 /// Appends the digits of a number to a text. If it fails, the text begins as before.
 #[tactic(auto, using(crate::proofs::Texts::begins_with_itself, crate::proofs::Texts::begins_pushed, crate::proofs::Texts::begins_both))]
 pub fn append_number(text: &mut String, n: u64) -> Result<(), NoMemory>
-    ensures ok { OnOk result (string_bytes text.new ≡ string_bytes text.old ++ decimal n) }
-    ensures kept { IsBeginning (string_bytes text.old) (string_bytes text.new) }
+    ensures ok { OnOk result (Adds text.old text.new (decimal n)) }
+    ensures kept { Extends text.old text.new }
 {
     let mut buffer = Buffer::new();
     text.push_str(buffer.format(n))
@@ -82,10 +80,8 @@ pub fn append_number(text: &mut String, n: u64) -> Result<(), NoMemory>
 #[tactic(auto, using(crate::proofs::Texts::begins_with_itself, crate::proofs::Texts::begins_pushed, crate::proofs::Texts::begins_both))]
 #[cycle(texts)]
 pub fn append_outs(text: &mut String, outs: &Outs) -> Result<(), NoMemory>
-    ensures ok { OnOk result
-        (string_bytes text.new
-        ≡ string_bytes text.old ++ output_text (listed (outputs_of (outs_list outs.now)))) }
-    ensures kept { IsBeginning (string_bytes text.old) (string_bytes text.new) }
+    ensures ok { OnOk result (Adds text.old text.new (output_text (listed (outputs_of (outs_list outs.now))))) }
+    ensures kept { Extends text.old text.new }
 {
     text.push_str("[")?;
     append_list(text, outs)?;
@@ -96,10 +92,8 @@ pub fn append_outs(text: &mut String, outs: &Outs) -> Result<(), NoMemory>
 #[tactic(auto, using(crate::proofs::Texts::begins_with_itself, crate::proofs::Texts::begins_pushed, crate::proofs::Texts::begins_both))]
 #[cycle(texts)]
 fn append_list(text: &mut String, outs: &Outs) -> Result<(), NoMemory>
-    ensures ok { OnOk result
-        (string_bytes text.new
-        ≡ string_bytes text.old ++ outputs_text (outputs_of (outs_list outs.now))) }
-    ensures kept { IsBeginning (string_bytes text.old) (string_bytes text.new) }
+    ensures ok { OnOk result (Adds text.old text.new (outputs_text (outputs_of (outs_list outs.now)))) }
+    ensures kept { Extends text.old text.new }
 {
     match &outs.storage {
         Storage::Own(items) => append_items(text, items),
@@ -111,9 +105,8 @@ fn append_list(text: &mut String, outs: &Outs) -> Result<(), NoMemory>
 #[tactic(auto, using(crate::proofs::Texts::begins_with_itself, crate::proofs::Texts::begins_pushed, crate::proofs::Texts::begins_both))]
 #[cycle(texts)]
 fn append_items(text: &mut String, items: &[Out]) -> Result<(), NoMemory>
-    ensures ok { OnOk result
-        (string_bytes text.new ≡ string_bytes text.old ++ outputs_text (outputs_of items.now)) }
-    ensures kept { IsBeginning (string_bytes text.old) (string_bytes text.new) }
+    ensures ok { OnOk result (Adds text.old text.new (outputs_text (outputs_of items.now))) }
+    ensures kept { Extends text.old text.new }
 {
     for (i, item) in items.iter().enumerate() {
         append_comma(text, i)?;
@@ -125,8 +118,8 @@ fn append_items(text: &mut String, items: &[Out]) -> Result<(), NoMemory>
 // Appends the comma before an output of a list, except before the first.
 #[tactic(auto, using(crate::proofs::Texts::begins_with_itself, crate::proofs::Texts::begins_pushed, crate::proofs::Texts::begins_both))]
 fn append_comma(text: &mut String, place: usize) -> Result<(), NoMemory>
-    ensures ok { OnOk result (string_bytes text.new ≡ string_bytes text.old ++ comma_before place) }
-    ensures kept { IsBeginning (string_bytes text.old) (string_bytes text.new) }
+    ensures ok { OnOk result (Adds text.old text.new (comma_before place)) }
+    ensures kept { Extends text.old text.new }
 {
     if 0 < place {
         text.push_str(",")
