@@ -1,5 +1,5 @@
 -- Outputs as plain values, and what tests and functions compute from them.
-use Rattle.std.specs.Prelude.{ℕ, ◌+◌, ◌*◌, Bool, not, List, [], ◌∷◌, nat_lt, nat_le, nat_eq}
+use Rattle.std.specs.Prelude.{◌≡◌, ℕ, ◌+◌, ◌*◌, Bool, not, List, [], ◌∷◌, nat_lt, nat_le, nat_eq}
 use Rattle.zs_term.specs.Saturating.{saturated}
 use Rattle.zs_term.specs.declared.outputs.Out.{Out, Num, Pair', Left', Right', Items'}
 use Rattle.zs_term.specs.declared.outputs.Storage.{Storage, Own', Shared', Row_of-Out, end_of-Out, more_of-Out, items-the_row-Out}
@@ -60,6 +60,10 @@ outs_list o = stored_list o.storage
 abbrev pub with_last : Outputs → Output → Outputs
 with_last none y = more y none
 with_last (more x xs) y = more x (with_last xs y)
+
+-- the second list is the first with one more output at its end
+abbrev pub Appends : List Out → List Out → Out → Type 0
+Appends old new out = outputs_of new ≡ with_last (outputs_of old) (output_of out)
 
 -- the number of values
 abbrev pub count : Outputs → ℕ

@@ -1,9 +1,9 @@
 -- What the code stores of the terms that it has read.
-use Rattle.std.specs.Prelude.{ℕ, ◌+◌, max, Bool, List, [], ◌∷◌, ◌++◌, replicate, Option, Some, None, option_map, if◌then◌else◌}
+use Rattle.std.specs.Prelude.{◌≡◌, ◌≢◌, ℕ, ◌+◌, max, Bool, List, [], ◌∷◌, ◌++◌, replicate, Option, Some, None, option_map, if◌then◌else◌, MatchOption}
 use Rattle.zs_term.specs.Schedule.{Schedule, leaf, two, over, plain, counted, exponential, collect_all, mapped, schedule_of}
 use Rattle.zs_term.specs.Saturating.{saturated}
 use Rattle.zs_term.specs.Number.{fit}
-use Rattle.zs_term.specs.Machine.{Make, Frame, left, right, Mode, start, opening, counting, exp_opening, exp_counting, based, factored, closing, after, dotted, method, picking, testing, comparing, mapping, scaling, infix_pairing, test_modifier, scale_by}
+use Rattle.zs_term.specs.Machine.{Make, Frame, left, right, State, at, Mode, start, opening, counting, exp_opening, exp_counting, based, factored, closing, after, dotted, method, picking, testing, comparing, mapping, scaling, infix_pairing, test_modifier, scale_by}
 use Rattle.zs_term.specs.declared.term.Cmp.{Cmp}
 use Rattle.zs_term.specs.declared.term.Func.{Func}
 use Rattle.zs_term.specs.declared.forms.Infix.{Infix}
@@ -120,3 +120,15 @@ mode_of (Testing p s) = testing (kept_of p) s
 mode_of (Comparing p s c) = comparing (kept_of p) s c
 mode_of (Mapping p) = mapping (kept_of p)
 mode_of (Scaling p g) = scaling (kept_of p) g
+
+-- the state of a parser in this mode
+abbrev pub state_in : Parser → ModeKept → State Kept (Option ℕ)
+state_in parser mode = at (stack_of parser) (mode_of mode)
+
+-- the parser is in this state, if there is one, in the mode after a token
+abbrev pub Reaches : Parser → Option ModeKept → Option (State Kept (Option ℕ)) → Type 0
+Reaches parser next state = option_map (λ mode. state_in parser mode) next ≡ state
+
+-- the part is the whole term of the state; without a part the state has no whole term
+abbrev pub Finishes : State Kept (Option ℕ) → Option Part → Type 0
+Finishes state found = MatchOption found ((a : Kept) → state ≢ at [] (after a)) (λ part. state ≡ at [] (after (kept_of part)))

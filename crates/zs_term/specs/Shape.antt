@@ -1,7 +1,11 @@
 -- What the code takes a term apart into, and how long it takes to free one.
-use Rattle.std.specs.Prelude.{ℕ, ◌+◌, ◌*◌}
+use Rattle.std.specs.Prelude.{ℕ, ◌+◌, ◌*◌, List}
 use Rattle.zs_term.specs.Schedule.{Schedule, leaf, two, over, plain, counted, exponential, collect_all, mapped, schedule_of}
 use Rattle.zs_term.specs.Machine.{infix_pairing, test_modifier}
+use Rattle.zs_term.specs.Canonical.{while_input_text, while_output_text, reset_when_text}
+use Rattle.zs_term.specs.declared.forms.Action.TheVariants.{Stopping, Resetting}
+use Rattle.zs_term.specs.declared.forms.Subject.{Subject}
+use Rattle.zs_term.specs.declared.forms.Subject.TheVariants.{Input, Picked}
 use Rattle.zs_term.specs.declared.forms.Shape.{Shape}
 use Rattle.zs_term.specs.declared.forms.Shape.TheVariants.{Plain, Counted, Exponential, Joined, Tested, Collected, Mapped}
 
@@ -14,6 +18,12 @@ shape_schedule (Joined i a b) = two (infix_pairing i) (schedule_of a.now) (sched
 shape_schedule (Tested s j t) = over (schedule_of s.now) (test_modifier j t)
 shape_schedule (Collected s) = over (schedule_of s.now) collect_all
 shape_schedule (Mapped s f) = over (schedule_of s.now) (mapped f)
+
+-- the text before a test
+abbrev pub subject_text : Subject → List ℕ
+subject_text Input = while_input_text
+subject_text (Picked Stopping p) = while_output_text
+subject_text (Picked Resetting p) = reset_when_text
 
 -- the most steps that it takes to free a term: each left part is rotated to the right first
 abbrev pub steps_to_give_up : Schedule → ℕ

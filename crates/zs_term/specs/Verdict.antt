@@ -1,13 +1,14 @@
 -- What reading a text returns, as a function that computes: its schedule or its one fault.
 -- The law `verdict_is_the_one` of `src/laws.rt` ties it to the relations of `Causes`: the schedule
 -- is the one that the text spells, and the fault is the first in the order of `TermFault`.
-use Rattle.std.specs.Prelude.{◌≡◌, ℕ, List, [], ◌∷◌, length, Option, Some, None, if◌then◌else◌, Result, Ok, Err, MatchResult}
-use Rattle.zs_term.specs.Schedule.{Schedule, is_within_limits, has_factors, has_windows}
+use Rattle.std.specs.Prelude.{◌≡◌, ◌≢◌, ℕ, List, [], ◌∷◌, length, Option, Some, None, if◌then◌else◌, Result, Ok, Err, MatchResult}
+use Rattle.zs_term.specs.Schedule.{Schedule, schedule_of, is_within_limits, has_factors, has_windows}
 use Rattle.zs_term.specs.OutputKind.{OutputKind}
 use Rattle.zs_term.specs.Kinds.{kind_of}
 use Rattle.zs_term.specs.Token.{Placed, lexed}
 use Rattle.zs_term.specs.Machine.{Frame, Mode, start, after, State, at, step, plant}
 use Rattle.zs_term.specs.Causes.{first_huge, SpellsSchedule, IsCause}
+use Rattle.zs_term.specs.declared.term.Term.{Term}
 use Rattle.zs_term.specs.declared.fault.TermFault.{TermFault}
 use Rattle.zs_term.specs.declared.fault.TermFault.TheVariants.{NoTerm, TooBig, BadNumber, BadFactor, NoKind, BadWindow, Memory}
 
@@ -57,6 +58,11 @@ judged text (Ok t) = judged_term t (first_huge (lexed text).tokens)
 -- the verdict on a text: the schedule that it spells, or its one fault
 abbrev pub verdict_of : List ℕ → Result Schedule TermFault
 verdict_of text = judged text (spelled_term text)
+
+-- a result is this verdict: the term of its schedule, or its fault; `Memory` may come instead
+abbrev pub IsVerdict : Result Schedule TermFault → Result Term TermFault → Type 0
+IsVerdict verdict result =
+    MatchResult result (λ term. verdict ≡ Ok (schedule_of term)) (λ fault. fault ≢ Memory → verdict ≡ Err fault)
 
 -- the computed schedule is the one that the text spells, and the computed fault is the first
 abbrev pub VerdictIsTheOne : Type 0

@@ -1,11 +1,11 @@
 //! Checked terms: schedules that can be stepped.
 
-ghost use Rattle.std.specs.Prelude.{◌≡◌, ◌≢◌, ◌+◌, ◌*◌, ◌<◌, Some, IfOk, IfErr, MatchResult, true, false, ◌↔◌};
-ghost use Rattle.zs_term.specs.Schedule.{schedule_of, is_within_limits, has_factors, weight};
+ghost use Rattle.std.specs.Prelude.{◌≡◌, ◌≢◌, ◌<◌, Some, IfOk, IfErr, true, false, ◌↔◌};
+ghost use Rattle.zs_term.specs.Schedule.{schedule_of, is_within_limits, has_factors, weight, two, both};
 ghost use Rattle.zs_term.specs.OutputKind.{output_kind_of};
 ghost use Rattle.zs_term.specs.Kinds.{kind_of, takes_memory, IsSchedule};
 ghost use Rattle.zs_term.specs.Causes.{IsTermCause};
-ghost use Rattle.zs_term.specs.Verdict.{checked_as};
+ghost use Rattle.zs_term.specs.Verdict.{checked_as, IsVerdict};
 ghost use Rattle.zs_term.specs.Shape.{steps_to_give_up};
 
 use crate::fault::TermFault;
@@ -79,12 +79,9 @@ pub fn check(alloc: Global, term: Term) -> Result<Checked, TermFault>
     ensures err { IfErr result (IsTermCause (schedule_of term)) }
     ensures too_big { result ≡ Err TermFault.TooBig ↔ is_within_limits (schedule_of term) ≡ false }
     ensures bad_factor { result ≡ Err TermFault.BadFactor
-        ↔ ((is_within_limits (schedule_of term) ≡ true)
-        × (has_factors (schedule_of term) ≡ false)) }
+        ↔ IsTermCause (schedule_of term) TermFault.BadFactor }
     // Once more, by the definition that computes.
-    ensures verdict { MatchResult result (λ checked.
-        checked_as (schedule_of term) ≡ Ok (schedule_of checked)) (λ fault.
-        fault ≢ TermFault.Memory → checked_as (schedule_of term) ≡ Err fault) }
+    ensures verdict { IsVerdict (checked_as (schedule_of term)) result }
     // Only a kind that has parts takes memory.
     ensures memory { result ≡ Err TermFault.Memory → takes_memory (schedule_of term) ≡ true }
 {
@@ -104,9 +101,7 @@ pub(crate) fn check_small(alloc: Global, term: Term) -> Result<Checked, TermFaul
     ensures err { IfErr result (IsTermCause (schedule_of term)) }
     ensures small { result ≢ Err TermFault.TooBig }
     ensures bad_factor { result ≡ Err TermFault.BadFactor ↔ has_factors (schedule_of term) ≡ false }
-    ensures verdict { MatchResult result (λ checked.
-        checked_as (schedule_of term) ≡ Ok (schedule_of checked)) (λ fault.
-        fault ≢ TermFault.Memory → checked_as (schedule_of term) ≡ Err fault) }
+    ensures verdict { IsVerdict (checked_as (schedule_of term)) result }
     ensures memory { result ≡ Err TermFault.Memory → takes_memory (schedule_of term) ≡ true }
 {
     match kind_in(alloc, &term) {
@@ -170,8 +165,7 @@ fn give_up(term: Term) {
 #[tactic(auto, using(crate::proofs::Sizes::steps_positive))]
 fn turn_over(left: Box<Term>, right: Box<Term>) -> Term
     ensures less { steps_to_give_up (schedule_of result)
-        < 2 * steps_to_give_up (schedule_of left.value)
-        + steps_to_give_up (schedule_of right.value) }
+        < steps_to_give_up (two both (schedule_of left.value) (schedule_of right.value)) }
 {
     let mut left = left;
     match replace(&mut *left, Term::Forever) {

@@ -80,7 +80,8 @@ pub fn append_number(text: &mut String, n: u64) -> Result<(), NoMemory>
 #[tactic(auto, using(crate::proofs::Texts::begins_with_itself, crate::proofs::Texts::begins_pushed, crate::proofs::Texts::begins_both))]
 #[cycle(texts)]
 pub fn append_outs(text: &mut String, outs: &Outs) -> Result<(), NoMemory>
-    ensures ok { OnOk result (Adds text.old text.new (output_text (listed (outputs_of (outs_list outs.now))))) }
+    ensures ok { OnOk result
+        (Adds text.old text.new (output_text (listed (outputs_of (outs_list outs.now))))) }
     ensures kept { Extends text.old text.new }
 {
     text.push_str("[")?;

@@ -2,7 +2,7 @@
 
 ghost use Rattle.std.specs.Prelude.{◌≡◌, IfOk, OnOk};
 ghost use Rattle.std.specs.Arc.{arc_value};
-ghost use Rattle.zs_term.specs.Output.{output_of, outputs_of, outs_list, number, pair, listed, left, right, passes, picked, applied, number_in, size_in, first_in, second_in, merge_in, with_last};
+ghost use Rattle.zs_term.specs.Output.{output_of, outputs_of, outs_list, number, pair, listed, left, right, passes, picked, applied, number_in, size_in, first_in, second_in, merge_in, Appends};
 
 use crate::term::{Cmp, Func, Pick, Test};
 use std::alloc::{AllocError, Global};
@@ -89,9 +89,7 @@ impl Outs {
     /// Appends an output. The list is changed in place if no other list shares its memory, else
     /// copied.
     pub fn push(&mut self, alloc: Global, out: Out) -> Result<(), AllocError>
-        ensures pushed { OnOk result
-            (outputs_of (outs_list self.new)
-            ≡ with_last (outputs_of (outs_list self.old)) (output_of out)) }
+        ensures pushed { OnOk result (Appends (outs_list self.old) (outs_list self.new) out) }
     {
         match &mut self.storage {
             Storage::Own(items) => push_own(items, out),
@@ -103,8 +101,7 @@ impl Outs {
 // Appends an output to a list with private memory.
 #[tactic(auto, using(crate::proofs::Values::outputs_of_push))]
 fn push_own(items: &mut Vec<Out>, out: Out) -> Result<(), AllocError>
-    ensures pushed { OnOk result
-        (outputs_of items.new.items ≡ with_last (outputs_of items.old.items) (output_of out)) }
+    ensures pushed { OnOk result (Appends items.old.items items.new.items out) }
 {
     items.push(out)?;
     Ok(())
@@ -113,8 +110,7 @@ fn push_own(items: &mut Vec<Out>, out: Out) -> Result<(), AllocError>
 // Appends an output to a list with shared memory.
 fn push_shared(shared: &mut Arc<Vec<Out>>, alloc: Global, out: Out) -> Result<(), AllocError>
     ensures pushed { OnOk result
-        (outputs_of (arc_value shared.new).items
-        ≡ with_last (outputs_of (arc_value shared.old).items) (output_of out)) }
+        (Appends (arc_value shared.old).items (arc_value shared.new).items out) }
 {
     if let Some(items) = Arc::get_mut(shared) {
         return push_own(items, out);

@@ -1,10 +1,10 @@
 //! The parser: what has been read of a text, and which token may come next.
 
-ghost use Rattle.std.specs.Prelude.{◌≡◌, ◌≢◌, Some, [], ◌∷◌, option_map, IfOk, OnOk, MatchOption};
+ghost use Rattle.std.specs.Prelude.{◌≡◌, Some, ◌∷◌, option_map, IfOk, OnOk};
 ghost use Rattle.zs_term.specs.Token.{Token};
 ghost use Rattle.zs_term.specs.Scan.{IsLexeme};
-ghost use Rattle.zs_term.specs.Machine.{argument, begin_leaf, open_mark, close_mark, base_mark, dot_mark, pick_mark, test_mark, map_mark, inner_mark, join_mark, step_mark, step_number, step, at, left, after};
-ghost use Rattle.zs_term.specs.Parts.{Kept, kept_of, mode_of, stack_of, keep};
+ghost use Rattle.zs_term.specs.Machine.{argument, begin_leaf, open_mark, close_mark, base_mark, dot_mark, pick_mark, test_mark, map_mark, inner_mark, join_mark, step_mark, step_number, step, left};
+ghost use Rattle.zs_term.specs.Parts.{kept_of, mode_of, stack_of, state_in, keep, Reaches, Finishes};
 
 use crate::forms::{Action, Counted, Infix, Method, Scale, Subject};
 use crate::part::Part;
@@ -210,9 +210,8 @@ impl Parser {
     // The token after a whole term, if it isn't a dot.
     #[tactic(auto, using(crate::proofs::Stacks::joined_push, crate::proofs::Stacks::bare_first, crate::proofs::Stacks::bare_none))]
     fn join_behind(&mut self, part: Part, mark: Mark) -> Result<Option<Mode>, AllocError>
-        ensures value { IfOk result (λ next.
-            option_map (λ m. at (stack_of self.new) (mode_of m)) next
-            ≡ join_mark (keep self.old.build) (stack_of self.old) (kept_of part) mark) }
+        ensures value { IfOk result (λ next. Reaches self.new next
+            (join_mark (keep self.old.build) (stack_of self.old) (kept_of part) mark)) }
         ensures build { self.new.build ≡ self.old.build }
     {
         if 0 < self.bare {
@@ -268,9 +267,8 @@ impl Parser {
     // Returns the mode after a word or symbol, or nothing if it may not come.
     #[tactic(auto, using(crate::proofs::Stacks::map_map))]
     fn after_mark(&mut self, mode: Mode, mark: Mark) -> Result<Option<Mode>, AllocError>
-        ensures value { IfOk result (λ next.
-            option_map (λ m. at (stack_of self.new) (mode_of m)) next
-            ≡ step_mark (keep self.old.build) (stack_of self.old) (mode_of mode) mark) }
+        ensures value { IfOk result (λ next. Reaches self.new next
+            (step_mark (keep self.old.build) (stack_of self.old) (mode_of mode) mark)) }
         ensures build { self.new.build ≡ self.old.build }
     {
         match mode {
@@ -291,9 +289,8 @@ impl Parser {
 
     // Returns the mode after a number, or nothing if it may not come.
     fn after_number(&self, mode: Mode, value: Option<u64>) -> Result<Option<Mode>, AllocError>
-        ensures value { IfOk result (λ next.
-            option_map (λ m. at (stack_of self.now) (mode_of m)) next
-            ≡ step_number (keep self.now.build) (stack_of self.now) (mode_of mode) value) }
+        ensures value { IfOk result (λ next. Reaches self.now next
+            (step_number (keep self.now.build) (stack_of self.now) (mode_of mode) value)) }
     {
         match mode {
             Mode::Counting(form) => {
@@ -329,10 +326,8 @@ impl Parser {
 
     /// Returns the mode after a token, or nothing if the token may not come.
     pub fn after_lexeme(&mut self, mode: Mode, lexeme: Lexeme) -> Result<Option<Mode>, AllocError>
-        ensures value { (t : Token) → IsLexeme lexeme t
-            → IfOk result (λ next.
-            option_map (λ m. at (stack_of self.new) (mode_of m)) next
-            ≡ step (keep self.old.build) (Some (at (stack_of self.old) (mode_of mode))) t) }
+        ensures value { (t : Token) → IsLexeme lexeme t → IfOk result (λ next.
+            Reaches self.new next (step (keep self.old.build) (Some (state_in self.old mode)) t)) }
         ensures build { self.new.build ≡ self.old.build }
     {
         match lexeme {
@@ -344,9 +339,7 @@ impl Parser {
     /// Returns the whole term that was read, if no form is open.
     #[tactic(auto, using(crate::proofs::Stacks::stack_empty))]
     pub fn finish(&self, mode: Mode) -> Option<Part>
-        ensures value { MatchOption result
-            ((a : Kept) → at (stack_of self.now) (mode_of mode) ≢ at [] (after a)) (λ part.
-            at (stack_of self.now) (mode_of mode) ≡ at [] (after (kept_of part))) }
+        ensures value { Finishes (state_in self.now mode) result }
     {
         if 0 < self.bare || !self.joined.is_empty() {
             return None;

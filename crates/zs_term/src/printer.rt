@@ -1,12 +1,14 @@
 //! The canonical spelling of schedules.
 
-ghost use Rattle.std.specs.Prelude.{◌≡◌, ◌<◌, ◌^◌, ◌++◌, IfOk, OnOk, string_bytes, codes};
+ghost use Rattle.std.specs.Prelude.{◌≡◌, ◌<◌, ◌^◌, ◌++◌, IfOk, OnOk, string_bytes};
 ghost use Rattle.std.specs.Fmt.{decimal};
 ghost use Rattle.zs_term.specs.Schedule.{schedule_of, exponential};
 ghost use Rattle.zs_term.specs.Number.{HasFittingNumbers, ModifierFits, FuncFits};
 ghost use Rattle.zs_term.specs.Machine.{infix_pairing, test_modifier};
 ghost use Rattle.zs_term.specs.Causes.{SpellsSchedule};
-ghost use Rattle.zs_term.specs.Canonical.{canonical_text, leaf_text, pairing_text, modifier_text, cmp_text, pick_text, func_text, test_text, while_input_text, while_output_text, reset_when_text, exponential_text, number_text, infix_text};
+ghost use Rattle.zs_term.specs.OutputText.{Adds};
+ghost use Rattle.zs_term.specs.Shape.{subject_text};
+ghost use Rattle.zs_term.specs.Canonical.{canonical_text, leaf_text, exponential_text, pairing_text, modifier_text, cmp_text, pick_text, func_text, test_text, number_text};
 
 use crate::checked::Checked;
 use crate::forms::{Action, Infix, Shape, Subject};
@@ -30,16 +32,20 @@ pub fn write(alloc: Global, checked: &Checked) -> Result<String, NoMemory>
 }
 
 // Appends the canonical spelling of a term.
-#[cycle(spelling)]
 fn append(text: &mut String, term: &Term) -> Result<(), AllocError>
-    ensures text { OnOk result
-        (string_bytes text.new ≡ string_bytes text.old ++ canonical_text (schedule_of term.now)) }
+    ensures text { OnOk result (Adds text.old text.new (canonical_text (schedule_of term.now))) }
 {
     match term.shape() {
         Shape::Plain(form) => text.push_str(form.word()),
         Shape::Counted(form, n) => append_number(text, form.word(), n),
         Shape::Exponential(base, factor) => append_exponential(text, base, factor),
-        Shape::Joined(form, a, b) => append_infix(text, a, infix_text(form), b),
+        Shape::Joined(form, a, b) => {
+            text.push_str("(")?;
+            append(text, a)?;
+            text.push_str(infix_text(form))?;
+            append(text, b)?;
+            text.push_str(")")
+        }
         Shape::Tested(a, subject, test) => {
             append(text, a)?;
             append_tested(text, subject, test)
@@ -50,31 +56,16 @@ fn append(text: &mut String, term: &Term) -> Result<(), AllocError>
         }
         Shape::Mapped(a, func) => {
             append(text, a)?;
-            append_map(text, func)
+            text.push_str(".map(")?;
+            append_func(text, func)?;
+            text.push_str(")")
         }
     }
 }
 
-// Appends two terms with an operator between them.
-#[cycle(spelling)]
-fn append_infix(text: &mut String, a: &Term, operator: &str, b: &Term) -> Result<(), AllocError>
-    ensures text { OnOk result
-        (string_bytes text.new
-        ≡ string_bytes text.old
-        ++ infix_text (canonical_text (schedule_of a.now)) operator.now
-        (canonical_text (schedule_of b.now))) }
-{
-    text.push_str("(")?;
-    append(text, a)?;
-    text.push_str(operator)?;
-    append(text, b)?;
-    text.push_str(")")
-}
-
 // Appends a word and a number in parentheses.
 fn append_number(text: &mut String, word: &str, number: u64) -> Result<(), AllocError>
-    ensures text { OnOk result
-        (string_bytes text.new ≡ string_bytes text.old ++ number_text word.now number) }
+    ensures text { OnOk result (Adds text.old text.new (number_text word.now number)) }
 {
     text.push_str(word)?;
     text.push_str("(")?;
@@ -83,8 +74,7 @@ fn append_number(text: &mut String, word: &str, number: u64) -> Result<(), Alloc
 
 // Appends an `exponential`.
 fn append_exponential(text: &mut String, base: u64, factor: u64) -> Result<(), AllocError>
-    ensures text { OnOk result
-        (string_bytes text.new ≡ string_bytes text.old ++ leaf_text (exponential base factor)) }
+    ensures text { OnOk result (Adds text.old text.new (leaf_text (exponential base factor))) }
 {
     append_exponential_word(text)?;
     write!(text, "{base}, ")?;
@@ -94,14 +84,14 @@ fn append_exponential(text: &mut String, base: u64, factor: u64) -> Result<(), A
 // Appends the text before the base of an `exponential`.
 #[tactic(auto, unfolding(crate::specs::Canonical::exponential_text))]
 fn append_exponential_word(text: &mut String) -> Result<(), AllocError>
-    ensures text { OnOk result (string_bytes text.new ≡ string_bytes text.old ++ exponential_text) }
+    ensures text { OnOk result (Adds text.old text.new exponential_text) }
 {
     text.push_str("exponential(")
 }
 
 // Appends a test and the parenthesis after it.
 fn append_test(text: &mut String, test: Test) -> Result<(), AllocError>
-    ensures text { OnOk result (string_bytes text.new ≡ string_bytes text.old ++ test_text test) }
+    ensures text { OnOk result (Adds text.old text.new (test_text test)) }
 {
     text.push_str(cmp_text(test.cmp))?;
     let than = test.than;
@@ -120,76 +110,42 @@ fn infix_text(form: Infix) -> &'static str
     }
 }
 
-// Returns the text before a test of the input.
-#[tactic(auto, unfolding(crate::specs::Canonical::while_input_text))]
-fn while_input_word() -> &'static str
-    ensures text { result.now ≡ while_input_text }
+// Returns the text before a test.
+#[tactic(auto, unfolding(crate::specs::Canonical::while_input_text, crate::specs::Canonical::while_output_text, crate::specs::Canonical::reset_when_text))]
+fn test_word(subject: Subject) -> &'static str
+    ensures text { result.now ≡ subject_text subject }
 {
-    ".whileInput("
-}
-
-// Returns the text before a test of the output.
-#[tactic(auto, unfolding(crate::specs::Canonical::while_output_text))]
-fn while_output_word() -> &'static str
-    ensures text { result.now ≡ while_output_text }
-{
-    ".whileOutput("
-}
-
-// Returns the text before the test of a reset.
-#[tactic(auto, unfolding(crate::specs::Canonical::reset_when_text))]
-fn reset_when_word() -> &'static str
-    ensures text { result.now ≡ reset_when_text }
-{
-    ".resetWhen("
+    match subject {
+        Subject::Input => ".whileInput(",
+        Subject::Picked(Action::Stopping, _) => ".whileOutput(",
+        Subject::Picked(Action::Resetting, _) => ".resetWhen(",
+    }
 }
 
 // Appends the modifier with a test that follows a schedule.
 fn append_tested(text: &mut String, subject: Subject, test: Test) -> Result<(), AllocError>
     ensures text { OnOk result
-        (string_bytes text.new
-        ≡ string_bytes text.old ++ modifier_text (test_modifier subject test)) }
+        (Adds text.old text.new (modifier_text (test_modifier subject test))) }
 {
+    let word = test_word(subject);
     match subject {
         Subject::Input => {
-            text.push_str(while_input_word())?;
+            text.push_str(word)?;
             append_test(text, test)
         }
-        Subject::Picked(Action::Stopping, pick) => append_picked(
-            text,
-            while_output_word(),
-            pick,
-            test,
-        ),
-        Subject::Picked(Action::Resetting, pick) => append_picked(
-            text,
-            reset_when_word(),
-            pick,
-            test,
-        ),
+        Subject::Picked(Action::Stopping, pick) => append_picked(text, word, pick, test),
+        Subject::Picked(Action::Resetting, pick) => append_picked(text, word, pick, test),
     }
 }
 
 // Appends a word and a pick with its test.
 fn append_picked(text: &mut String, word: &str, pick: Pick, test: Test) -> Result<(), AllocError>
     ensures text { OnOk result
-        (string_bytes text.new
-        ≡ string_bytes text.old ++ (word.now ++ (pick_text pick ++ test_text test))) }
+        (Adds text.old text.new (word.now ++ (pick_text pick ++ test_text test))) }
 {
     text.push_str(word)?;
     text.push_str(pick_text(pick))?;
     append_test(text, test)
-}
-
-// Appends `.map` with a function.
-fn append_map(text: &mut String, func: Func) -> Result<(), AllocError>
-    ensures text { OnOk result
-        (string_bytes text.new
-        ≡ string_bytes text.old ++ (codes ".map(" ++ (func_text func ++ codes ")"))) }
-{
-    text.push_str(".map(")?;
-    append_func(text, func)?;
-    text.push_str(")")
 }
 
 // Returns a comparison and the space after it.
@@ -220,7 +176,7 @@ fn pick_text(pick: Pick) -> &'static str
 
 // Appends a function.
 fn append_func(text: &mut String, func: Func) -> Result<(), AllocError>
-    ensures text { OnOk result (string_bytes text.new ≡ string_bytes text.old ++ func_text func) }
+    ensures text { OnOk result (Adds text.old text.new (func_text func)) }
 {
     match func {
         Func::First => text.push_str("_1"),
@@ -281,12 +237,7 @@ fn func_fits(func: Func)
     ensures value { FuncFits func }
 {
     match func {
-        Func::First => {}
-        Func::Second => {}
-        Func::Size => {}
-        Func::Merge => {}
-        Func::Const(_n) => {}
-        Func::Add(_n) => {}
-        Func::Mul(_n) => {}
+        Func::First | Func::Second | Func::Size | Func::Merge => {}
+        Func::Const(_n) | Func::Add(_n) | Func::Mul(_n) => {}
     }
 }

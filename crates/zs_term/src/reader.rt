@@ -1,14 +1,13 @@
 //! Reads schedules from their text.
 
-ghost use Rattle.std.specs.Prelude.{◌≡◌, IfOk, IfErr, MatchResult};
+ghost use Rattle.std.specs.Prelude.{◌≡◌, IfOk, IfErr};
 ghost use Rattle.zs_term.specs.Schedule.{Schedule, schedule_of};
 ghost use Rattle.zs_term.specs.Token.{Token};
 ghost use Rattle.zs_term.specs.Parts.{kept_of};
 ghost use Rattle.zs_term.specs.Scan.{IsLexeme};
 ghost use Rattle.zs_term.specs.Causes.{IsCause, IsRead, SpellsSchedule};
 ghost use Rattle.zs_term.specs.Reading.{IsWhole, huge_with};
-ghost use Rattle.zs_term.specs.Verdict.{verdict_of};
-ghost use Rattle.zs_term.specs.declared.fault.TermFault.TheVariants.{Memory};
+ghost use Rattle.zs_term.specs.Verdict.{verdict_of, IsVerdict};
 
 use crate::checked::{Checked, check_small};
 use crate::fault::TermFault;
@@ -122,8 +121,7 @@ pub fn read(alloc: Global, text: &str) -> Result<Checked, TermFault>
     ensures ok { IfOk result (λ checked. SpellsSchedule text.now (schedule_of checked)) }
     ensures err { IfErr result (IsCause text.now) }
     // Once more, by the definition that computes: `verdict_of` determines the result.
-    ensures verdict { MatchResult result (λ checked. verdict_of text.now ≡ Ok (schedule_of checked))
-        (λ fault. (fault ≡ Memory → ⊥) → verdict_of text.now ≡ Err fault) }
+    ensures verdict { IsVerdict (verdict_of text.now) result }
 {
     judge(alloc, text)
 }
