@@ -104,35 +104,20 @@ pub(crate) fn check_small(alloc: Global, term: Term) -> Result<Checked, TermFaul
     ensures verdict { IsVerdict (checked_as (schedule_of term)) result }
     ensures memory { result ≡ Err TermFault.Memory → takes_memory (schedule_of term) ≡ true }
 {
-    match kind_in(alloc, &term) {
-        Ok(kind) => Ok(Checked { term, kind }),
-        Err(fault) => Err(fault),
-    }
-}
-
-// Returns the kind of a term that is a schedule, or its first fault.
-fn kind_in(alloc: Global, term: &Term) -> Result<Kind, TermFault>
-    requires within { is_within_limits (schedule_of term.now) ≡ true }
-    ensures schedule { IfOk result (λ kind. IsSchedule (schedule_of term.now)) }
-    ensures kind { IfOk result (λ kind.
-        kind_of (schedule_of term.now) ≡ Some (output_kind_of kind)) }
-    ensures err { IfErr result (IsTermCause (schedule_of term.now)) }
-    ensures small { result ≢ Err TermFault.TooBig }
-    ensures bad_factor { result ≡ Err TermFault.BadFactor
-        ↔ has_factors (schedule_of term.now) ≡ false }
-    ensures memory { result ≡ Err TermFault.Memory → takes_memory (schedule_of term.now) ≡ true }
-{
-    let (factors, windows) = has_factors_and_windows(term);
+    let (factors, windows) = has_factors_and_windows(&term);
     if !factors {
         return Err(TermFault::BadFactor);
     }
-    if !has_kind(term) {
+    if !has_kind(&term) {
         return Err(TermFault::NoKind);
     }
     if !windows {
         return Err(TermFault::BadWindow);
     }
-    make_kind(alloc, term).map_err(|_| TermFault::Memory)
+    match make_kind(alloc, &term) {
+        Ok(kind) => Ok(Checked { term, kind }),
+        Err(_) => Err(TermFault::Memory),
+    }
 }
 
 // Frees a term node by node. To drop it would take stack in proportion to its depth.

@@ -83,10 +83,7 @@ fn head_of(term: &Term) -> Head<'_>
 fn is_num(term: &Term) -> bool
     ensures value { result ≡ is_num (unchecked_kind (schedule_of term.now)) }
 {
-    match head_of(term) {
-        Head::Num => true,
-        Head::Pair(_, _) | Head::Sum(_, _) | Head::Items(_) => false,
-    }
+    matches!(head_of(term), Head::Num)
 }
 
 // Whether a pick fits the kind of a term.

@@ -57,15 +57,14 @@ fn plain(letters: &[u8]) -> Option<Plain>
     ensures value { result ≡ plain_of letters.now }
 {
     if is_word(letters, Plain::Forever.word()) {
-        return Some(Plain::Forever);
+        Some(Plain::Forever)
+    } else if is_word(letters, Plain::Identity.word()) {
+        Some(Plain::Identity)
+    } else if is_word(letters, Plain::Elapsed.word()) {
+        Some(Plain::Elapsed)
+    } else {
+        None
     }
-    if is_word(letters, Plain::Identity.word()) {
-        return Some(Plain::Identity);
-    }
-    if is_word(letters, Plain::Elapsed.word()) {
-        return Some(Plain::Elapsed);
-    }
-    None
 }
 
 // Returns the leaf with one number that these letters name.
@@ -73,24 +72,20 @@ fn read_counted(letters: &[u8]) -> Option<Counted>
     ensures value { result ≡ counted_of letters.now }
 {
     if is_word(letters, Counted::Recurs.word()) {
-        return Some(Counted::Recurs);
+        Some(Counted::Recurs)
+    } else if is_word(letters, Counted::Spaced.word()) {
+        Some(Counted::Spaced)
+    } else if is_word(letters, Counted::Fixed.word()) {
+        Some(Counted::Fixed)
+    } else if is_word(letters, Counted::Fibonacci.word()) {
+        Some(Counted::Fibonacci)
+    } else if is_word(letters, Counted::Linear.word()) {
+        Some(Counted::Linear)
+    } else if is_word(letters, Counted::Windowed.word()) {
+        Some(Counted::Windowed)
+    } else {
+        None
     }
-    if is_word(letters, Counted::Spaced.word()) {
-        return Some(Counted::Spaced);
-    }
-    if is_word(letters, Counted::Fixed.word()) {
-        return Some(Counted::Fixed);
-    }
-    if is_word(letters, Counted::Fibonacci.word()) {
-        return Some(Counted::Fibonacci);
-    }
-    if is_word(letters, Counted::Linear.word()) {
-        return Some(Counted::Linear);
-    }
-    if is_word(letters, Counted::Windowed.word()) {
-        return Some(Counted::Windowed);
-    }
-    None
 }
 
 // Returns the method with arguments that these letters name.
@@ -98,18 +93,16 @@ fn method(letters: &[u8]) -> Option<Method>
     ensures value { result ≡ method_of letters.now }
 {
     if is_word(letters, "whileInput") {
-        return Some(Method::WhileInput);
+        Some(Method::WhileInput)
+    } else if is_word(letters, "whileOutput") {
+        Some(Method::WhileOutput)
+    } else if is_word(letters, "map") {
+        Some(Method::Map)
+    } else if is_word(letters, "resetWhen") {
+        Some(Method::ResetWhen)
+    } else {
+        None
     }
-    if is_word(letters, "whileOutput") {
-        return Some(Method::WhileOutput);
-    }
-    if is_word(letters, "map") {
-        return Some(Method::Map);
-    }
-    if is_word(letters, "resetWhen") {
-        return Some(Method::ResetWhen);
-    }
-    None
 }
 
 // Returns what any other letters mean.
@@ -117,24 +110,20 @@ fn other(letters: &[u8]) -> Mark
     ensures value { result ≡ other_mark letters.now }
 {
     if is_word(letters, "exponential") {
-        return Mark::ExponentialWord;
+        Mark::ExponentialWord
+    } else if is_word(letters, "andThenEither") {
+        Mark::Operator(Infix::AndThen)
+    } else if is_word(letters, "collectAll") {
+        Mark::CollectAllWord
+    } else if is_word(letters, "size") {
+        Mark::PieceWord(Piece::Size)
+    } else if is_word(letters, "merge") {
+        Mark::MergeWord
+    } else if is_word(letters, "as") {
+        Mark::ScaleWord(Scale::Constant)
+    } else {
+        Mark::OtherWord
     }
-    if is_word(letters, "andThenEither") {
-        return Mark::Operator(Infix::AndThen);
-    }
-    if is_word(letters, "collectAll") {
-        return Mark::CollectAllWord;
-    }
-    if is_word(letters, "size") {
-        return Mark::PieceWord(Piece::Size);
-    }
-    if is_word(letters, "merge") {
-        return Mark::MergeWord;
-    }
-    if is_word(letters, "as") {
-        return Mark::ScaleWord(Scale::Constant);
-    }
-    Mark::OtherWord
 }
 
 // Returns what a word means.

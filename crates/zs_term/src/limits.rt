@@ -41,16 +41,15 @@ fn room_left(term: &Term, levels: u64, nodes: u64) -> Option<u64>
     if levels == 0 || nodes == 0 {
         return None;
     }
+    let (levels, nodes) = (levels - 1, nodes - 1);
     match term.shape() {
-        Shape::Plain(_) | Shape::Counted(_, _) | Shape::Exponential(_, _) => Some(nodes - 1),
-        Shape::Joined(_, a, b) => room_left(b, levels - 1, room_left(a, levels - 1, nodes - 1)?),
-        Shape::Tested(s, Subject::Picked(Action::Resetting, _), _) => room_left(
-            s,
-            levels - 1,
-            room_left(s, levels - 1, nodes - 1)?,
-        ),
+        Shape::Plain(_) | Shape::Counted(_, _) | Shape::Exponential(_, _) => Some(nodes),
+        Shape::Joined(_, a, b) => room_left(b, levels, room_left(a, levels, nodes)?),
+        Shape::Tested(s, Subject::Picked(Action::Resetting, _), _) => {
+            room_left(s, levels, room_left(s, levels, nodes)?)
+        }
         Shape::Tested(s, _, _) | Shape::Collected(s) | Shape::Mapped(s, _) => {
-            room_left(s, levels - 1, nodes - 1)
+            room_left(s, levels, nodes)
         }
     }
 }

@@ -2,7 +2,7 @@
 
 ghost use Rattle.std.specs.Prelude.{◌≡◌, IfOk, OnOk};
 ghost use Rattle.std.specs.Arc.{arc_value};
-ghost use Rattle.zs_term.specs.Output.{output_of, outputs_of, outs_list, number, pair, listed, left, right, passes, picked, applied, number_in, size_in, first_in, second_in, merge_in, Appends};
+ghost use Rattle.zs_term.specs.Output.{output_of, outputs_of, outs_list, number, pair, listed, left, right, passes, picked, applied, number_in, size_in, Appends};
 
 use crate::term::{Cmp, Func, Pick, Test};
 use std::alloc::{AllocError, Global};
@@ -129,13 +129,9 @@ impl Out {
     {
         match self {
             Out::Num(n) => Ok(Out::Num(*n)),
-            Out::Pair(a, b) => {
-                let a = Box::new(alloc, a.copy(alloc)?)?;
-                let b = Box::new(alloc, b.copy(alloc)?)?;
-                Ok(Out::Pair(a, b))
-            }
-            Out::Left(a) => Ok(Out::Left(Box::new(alloc, a.copy(alloc)?)?)),
-            Out::Right(a) => Ok(Out::Right(Box::new(alloc, a.copy(alloc)?)?)),
+            Out::Pair(a, b) => make_pair(alloc, a.copy(alloc)?, b.copy(alloc)?),
+            Out::Left(a) => make_left(alloc, a.copy(alloc)?),
+            Out::Right(a) => make_right(alloc, a.copy(alloc)?),
             Out::Items(outs) => Ok(Out::Items(outs.copy(alloc)?)),
         }
     }
@@ -157,45 +153,6 @@ impl Out {
         match self {
             Out::Items(outs) => outs.items().len() as u64,
             Out::Num(_) | Out::Pair(_, _) | Out::Left(_) | Out::Right(_) => 0,
-        }
-    }
-
-    /// Returns the first part of a pair, or the output itself.
-    pub(crate) fn into_first(self) -> Out
-        ensures value { output_of result ≡ first_in (output_of self) }
-    {
-        match self {
-            Out::Pair(a, _b) => Box::into_inner(a),
-            Out::Num(n) => Out::Num(n),
-            Out::Left(a) => Out::Left(a),
-            Out::Right(a) => Out::Right(a),
-            Out::Items(outs) => Out::Items(outs),
-        }
-    }
-
-    /// Returns the second part of a pair, or the output itself.
-    pub(crate) fn into_second(self) -> Out
-        ensures value { output_of result ≡ second_in (output_of self) }
-    {
-        match self {
-            Out::Pair(_a, b) => Box::into_inner(b),
-            Out::Num(n) => Out::Num(n),
-            Out::Left(a) => Out::Left(a),
-            Out::Right(a) => Out::Right(a),
-            Out::Items(outs) => Out::Items(outs),
-        }
-    }
-
-    /// Returns the content of `Left` or `Right`, or the output itself.
-    pub(crate) fn into_merged(self) -> Out
-        ensures value { output_of result ≡ merge_in (output_of self) }
-    {
-        match self {
-            Out::Left(a) => Box::into_inner(a),
-            Out::Right(b) => Box::into_inner(b),
-            Out::Num(n) => Out::Num(n),
-            Out::Pair(a, b) => Out::Pair(a, b),
-            Out::Items(outs) => Out::Items(outs),
         }
     }
 }
@@ -279,17 +236,11 @@ impl Pick {
     pub fn read(self, out: &Out) -> u64
         ensures value { result ≡ picked self (output_of out.now) }
     {
-        match self {
-            Pick::Whole => out.number(),
-            Pick::First => match out {
-                Out::Pair(a, _) => a.number(),
-                Out::Num(_) | Out::Left(_) | Out::Right(_) | Out::Items(_) => out.number(),
-            },
-            Pick::Second => match out {
-                Out::Pair(_, b) => b.number(),
-                Out::Num(_) | Out::Left(_) | Out::Right(_) | Out::Items(_) => out.number(),
-            },
-            Pick::Size => out.size(),
+        match (self, out) {
+            (Pick::First, Out::Pair(a, _)) => a.number(),
+            (Pick::Second, Out::Pair(_, b)) => b.number(),
+            (Pick::Size, _) => out.size(),
+            (Pick::Whole | Pick::First | Pick::Second, _) => out.number(),
         }
     }
 }
@@ -301,14 +252,15 @@ impl Func {
     pub fn apply(self, out: Out) -> Out
         ensures value { output_of result ≡ applied self (output_of out) }
     {
-        match self {
-            Func::First => out.into_first(),
-            Func::Second => out.into_second(),
-            Func::Merge => out.into_merged(),
-            Func::Size => Out::Num(out.size()),
-            Func::Const(n) => Out::Num(n),
-            Func::Add(n) => Out::Num(out.number().saturating_add(n)),
-            Func::Mul(n) => Out::Num(out.number().saturating_mul(n)),
+        match (self, out) {
+            (Func::First, Out::Pair(a, _)) => Box::into_inner(a),
+            (Func::Second, Out::Pair(_, b)) => Box::into_inner(b),
+            (Func::Merge, Out::Left(a) | Out::Right(a)) => Box::into_inner(a),
+            (Func::First | Func::Second | Func::Merge, out) => out,
+            (Func::Size, out) => Out::Num(out.size()),
+            (Func::Const(n), _) => Out::Num(n),
+            (Func::Add(n), out) => Out::Num(out.number().saturating_add(n)),
+            (Func::Mul(n), out) => Out::Num(out.number().saturating_mul(n)),
         }
     }
 }

@@ -137,15 +137,12 @@ impl Parser {
         ensures value { IfOk result (λ next.
             option_map mode_of next ≡ begin_leaf (keep self.now.build) mark) }
     {
-        match mark {
-            Mark::PlainWord(form) => {
-                let part = Part::plain(self.alloc, self.build, form)?;
-                Ok(Some(Mode::After(part)))
-            }
-            Mark::CountedWord(form) => Ok(Some(Mode::Opening(form))),
-            Mark::ExponentialWord => Ok(Some(Mode::ExpOpening)),
-            _ => Ok(None),
-        }
+        Ok(Some(match mark {
+            Mark::PlainWord(form) => Mode::After(Part::plain(self.alloc, self.build, form)?),
+            Mark::CountedWord(form) => Mode::Opening(form),
+            Mark::ExponentialWord => Mode::ExpOpening,
+            _ => return Ok(None),
+        }))
     }
 
     // The token after `exponential(N`.
@@ -153,14 +150,11 @@ impl Parser {
         ensures value { IfOk result (λ next.
             option_map mode_of next ≡ base_mark (keep self.now.build) base mark) }
     {
-        match mark {
-            Mark::Close => {
-                let part = Part::growing(self.alloc, self.build, base, Some(2))?;
-                Ok(Some(Mode::After(part)))
-            }
-            Mark::Comma => Ok(Some(Mode::Factored(base))),
-            _ => Ok(None),
-        }
+        Ok(Some(match mark {
+            Mark::Close => Mode::After(Part::growing(self.alloc, self.build, base, Some(2))?),
+            Mark::Comma => Mode::Factored(base),
+            _ => return Ok(None),
+        }))
     }
 
     // The token after `S.`.
@@ -168,14 +162,11 @@ impl Parser {
         ensures value { IfOk result (λ next.
             option_map mode_of next ≡ dot_mark (keep self.now.build) (kept_of part) mark) }
     {
-        match mark {
-            Mark::CollectAllWord => {
-                let whole = Part::collect(self.alloc, part)?;
-                Ok(Some(Mode::After(whole)))
-            }
-            Mark::MethodWord(method) => Ok(Some(Mode::Method(method, part))),
-            _ => Ok(None),
-        }
+        Ok(Some(match mark {
+            Mark::CollectAllWord => Mode::After(Part::collect(self.alloc, part)?),
+            Mark::MethodWord(method) => Mode::Method(method, part),
+            _ => return Ok(None),
+        }))
     }
 
     // A function without a number, or the word of one with a number.
@@ -183,18 +174,12 @@ impl Parser {
         ensures value { IfOk result (λ next.
             option_map mode_of next ≡ map_mark (keep self.now.build) (kept_of part) mark) }
     {
-        match mark {
-            Mark::PieceWord(piece) => {
-                let whole = Part::apply(self.alloc, part, piece.func())?;
-                Ok(Some(Mode::Closing(whole)))
-            }
-            Mark::MergeWord => {
-                let whole = Part::apply(self.alloc, part, Func::Merge)?;
-                Ok(Some(Mode::Closing(whole)))
-            }
-            Mark::ScaleWord(scale) => Ok(Some(Mode::Scaling(part, scale))),
-            _ => Ok(None),
-        }
+        Ok(Some(match mark {
+            Mark::PieceWord(piece) => Mode::Closing(Part::apply(self.alloc, part, piece.func())?),
+            Mark::MergeWord => Mode::Closing(Part::apply(self.alloc, part, Func::Merge)?),
+            Mark::ScaleWord(scale) => Mode::Scaling(part, scale),
+            _ => return Ok(None),
+        }))
     }
 
     // Counts one more `(`. The counter can't overflow, since no text is that long.
@@ -231,8 +216,7 @@ impl Parser {
             Some(Joined { before, form, left }) => match mark {
                 Mark::Close => {
                     self.bare = before;
-                    let whole = Part::join(self.alloc, form, left, part)?;
-                    Ok(Some(Mode::After(whole)))
+                    Ok(Some(Mode::After(Part::join(self.alloc, form, left, part)?)))
                 }
                 _ => Ok(None),
             },
@@ -292,24 +276,12 @@ impl Parser {
         ensures value { IfOk result (λ next. Reaches self.now next
             (step_number (keep self.now.build) (stack_of self.now) (mode_of mode) value)) }
     {
-        match mode {
-            Mode::Counting(form) => {
-                let part = Part::counted(self.alloc, self.build, form, value)?;
-                Ok(Some(Mode::Closing(part)))
-            }
-            Mode::ExpCounting => Ok(Some(Mode::Based(value))),
-            Mode::Factored(base) => {
-                let part = Part::growing(self.alloc, self.build, base, value)?;
-                Ok(Some(Mode::Closing(part)))
-            }
-            Mode::Comparing(part, subject, cmp) => {
-                let whole = Part::test(self.alloc, part, subject, cmp, value)?;
-                Ok(Some(Mode::Closing(whole)))
-            }
-            Mode::Scaling(part, scale) => {
-                let whole = Part::scale(self.alloc, part, scale, value)?;
-                Ok(Some(Mode::Closing(whole)))
-            }
+        let part = match mode {
+            Mode::Counting(form) => Part::counted(self.alloc, self.build, form, value)?,
+            Mode::ExpCounting => return Ok(Some(Mode::Based(value))),
+            Mode::Factored(base) => Part::growing(self.alloc, self.build, base, value)?,
+            Mode::Comparing(s, subject, cmp) => Part::test(self.alloc, s, subject, cmp, value)?,
+            Mode::Scaling(s, scale) => Part::scale(self.alloc, s, scale, value)?,
             Mode::Start
             | Mode::After(_)
             | Mode::Opening(_)
@@ -320,8 +292,9 @@ impl Parser {
             | Mode::Method(_, _)
             | Mode::Picking(_, _)
             | Mode::Testing(_, _)
-            | Mode::Mapping(_) => Ok(None),
-        }
+            | Mode::Mapping(_) => return Ok(None),
+        };
+        Ok(Some(Mode::Closing(part)))
     }
 
     /// Returns the mode after a token, or nothing if the token may not come.
@@ -344,23 +317,9 @@ impl Parser {
         if 0 < self.bare || !self.joined.is_empty() {
             return None;
         }
-        match mode {
-            Mode::After(part) => Some(part),
-            Mode::Start
-            | Mode::Opening(_)
-            | Mode::Counting(_)
-            | Mode::ExpOpening
-            | Mode::ExpCounting
-            | Mode::Based(_)
-            | Mode::Factored(_)
-            | Mode::Closing(_)
-            | Mode::Dotted(_)
-            | Mode::Method(_, _)
-            | Mode::Picking(_, _)
-            | Mode::Testing(_, _)
-            | Mode::Comparing(_, _, _)
-            | Mode::Mapping(_)
-            | Mode::Scaling(_, _) => None,
+        if let Mode::After(part) = mode {
+            return Some(part);
         }
+        None
     }
 }

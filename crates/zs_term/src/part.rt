@@ -1,7 +1,8 @@
 //! Whole terms that the parser has composed.
 
-ghost use Rattle.std.specs.Prelude.{◌≡◌, IfOk};
-ghost use Rattle.zs_term.specs.Parts.{kept_of, keep, keep_join, keep_test, keep_collect, keep_apply, keep_scale};
+ghost use Rattle.std.specs.Prelude.{◌≡◌, IfOk, option_map};
+ghost use Rattle.zs_term.specs.Schedule.{schedule_of};
+ghost use Rattle.zs_term.specs.Parts.{kept_of, keep, keep_join, keep_test, keep_collect, keep_apply, keep_scale, one_more};
 
 use crate::forms::{Counted, Infix, Plain, Scale, Subject};
 use crate::term::{Cmp, Func, Term, Test};
@@ -24,11 +25,8 @@ impl Part {
     pub fn plain(alloc: Global, build: bool, form: Plain) -> Result<Part, AllocError>
         ensures value { IfOk result (λ part. kept_of part ≡ (keep build).plain form) }
     {
-        let mut term = None;
-        if build {
-            term = Some(Box::new(alloc, form.of())?);
-        }
-        Ok(Part::leaf(term))
+        let term = if build { Some(form.of()) } else { None };
+        Part::above(alloc, 0, 1, term)
     }
 
     /// Makes a leaf with a number.
@@ -40,13 +38,11 @@ impl Part {
     ) -> Result<Part, AllocError>
         ensures value { IfOk result (λ part. kept_of part ≡ (keep build).counted form value) }
     {
-        let mut term = None;
-        if build {
-            if let Some(n) = value {
-                term = Some(Box::new(alloc, form.of(n))?);
-            }
-        }
-        Ok(Part::leaf(term))
+        let term = match value {
+            Some(n) if build => Some(form.of(n)),
+            _ => None,
+        };
+        Part::above(alloc, 0, 1, term)
     }
 
     /// Makes an `exponential` with its base and factor.
@@ -58,26 +54,28 @@ impl Part {
     ) -> Result<Part, AllocError>
         ensures value { IfOk result (λ part. kept_of part ≡ (keep build).growing base factor) }
     {
-        let mut term = None;
-        if build {
-            if let Some(b) = base
-                && let Some(f) = factor
-            {
-                term = Some(Box::new(alloc, Term::Exponential(b, f))?);
-            }
-        }
-        Ok(Part::leaf(term))
+        let term = match (base, factor) {
+            (Some(b), Some(f)) if build => Some(Term::Exponential(b, f)),
+            _ => None,
+        };
+        Part::above(alloc, 0, 1, term)
     }
 
-    // Makes a leaf, with its sizes.
-    fn leaf(term: Option<Box<Term>>) -> Part
-        ensures value { result ≡ record { depth = 1; weight = 1; term = term } }
+    // Makes a part one level deeper than its deepest part, with its term if there is one.
+    fn above(alloc: Global, below: u64, weight: u64, term: Option<Term>) -> Result<Part, AllocError>
+        ensures value { IfOk result (λ part. kept_of part
+            ≡ record { depth = one_more below; weight = weight; schedule = option_map schedule_of term }) }
     {
-        Part {
-            depth: 1,
-            weight: 1,
-            term,
+        let depth = below.saturating_add(1);
+        let mut boxed = None;
+        if let Some(term) = term {
+            boxed = Some(Box::new(alloc, term)?);
         }
+        Ok(Part {
+            depth,
+            weight,
+            term: boxed,
+        })
     }
 
     /// Joins two parts by an operator.
@@ -85,19 +83,13 @@ impl Part {
         ensures value { IfOk result (λ part.
             kept_of part ≡ keep_join form (kept_of left) (kept_of right)) }
     {
-        let depth = left.depth.max(right.depth).saturating_add(1);
+        let below = left.depth.max(right.depth);
         let weight = left.weight.saturating_add(right.weight).saturating_add(1);
-        let mut term = None;
-        if let Some(a) = left.term
-            && let Some(b) = right.term
-        {
-            term = Some(Box::new(alloc, form.of(a, b))?);
-        }
-        Ok(Part {
-            depth,
-            weight,
-            term,
-        })
+        let term = match (left.term, right.term) {
+            (Some(a), Some(b)) => Some(form.of(a, b)),
+            _ => None,
+        };
+        Part::above(alloc, below, weight, term)
     }
 
     /// Puts a test over a part.
@@ -111,53 +103,27 @@ impl Part {
         ensures value { IfOk result (λ whole.
             kept_of whole ≡ keep_test (kept_of part) subject cmp value) }
     {
-        let depth = part.depth.saturating_add(1);
-        let weight = subject.weight_over(part.weight);
-        let mut term = None;
-        if let Some(a) = part.term
-            && let Some(than) = value
-        {
-            term = Some(Box::new(alloc, subject.of(a, Test { cmp, than }))?);
-        }
-        Ok(Part {
-            depth,
-            weight,
-            term,
-        })
+        let term = match (part.term, value) {
+            (Some(a), Some(than)) => Some(subject.of(a, Test { cmp, than })),
+            _ => None,
+        };
+        Part::above(alloc, part.depth, subject.weight_over(part.weight), term)
     }
 
     /// Puts `collectAll` over a part.
     pub fn collect(alloc: Global, part: Part) -> Result<Part, AllocError>
         ensures value { IfOk result (λ whole. kept_of whole ≡ keep_collect (kept_of part)) }
     {
-        let depth = part.depth.saturating_add(1);
-        let weight = part.weight.saturating_add(1);
-        let mut term = None;
-        if let Some(a) = part.term {
-            term = Some(Box::new(alloc, Term::CollectAll(a))?);
-        }
-        Ok(Part {
-            depth,
-            weight,
-            term,
-        })
+        let term = part.term.map(|a| Term::CollectAll(a));
+        Part::above(alloc, part.depth, part.weight.saturating_add(1), term)
     }
 
     /// Puts a function without a number over a part.
     pub fn apply(alloc: Global, part: Part, func: Func) -> Result<Part, AllocError>
         ensures value { IfOk result (λ whole. kept_of whole ≡ keep_apply (kept_of part) func) }
     {
-        let depth = part.depth.saturating_add(1);
-        let weight = part.weight.saturating_add(1);
-        let mut term = None;
-        if let Some(a) = part.term {
-            term = Some(Box::new(alloc, Term::Map(a, func))?);
-        }
-        Ok(Part {
-            depth,
-            weight,
-            term,
-        })
+        let term = part.term.map(|a| Term::Map(a, func));
+        Part::above(alloc, part.depth, part.weight.saturating_add(1), term)
     }
 
     /// Puts a function with a number over a part.
@@ -170,18 +136,10 @@ impl Part {
         ensures value { IfOk result (λ whole.
             kept_of whole ≡ keep_scale (kept_of part) scale value) }
     {
-        let depth = part.depth.saturating_add(1);
-        let weight = part.weight.saturating_add(1);
-        let mut term = None;
-        if let Some(a) = part.term
-            && let Some(n) = value
-        {
-            term = Some(Box::new(alloc, Term::Map(a, scale.by(n)))?);
-        }
-        Ok(Part {
-            depth,
-            weight,
-            term,
-        })
+        let term = match (part.term, value) {
+            (Some(a), Some(n)) => Some(Term::Map(a, scale.by(n))),
+            _ => None,
+        };
+        Part::above(alloc, part.depth, part.weight.saturating_add(1), term)
     }
 }
