@@ -33,9 +33,9 @@ with_both f None y = None
 abbrev pub keep_leaf : Bool → Option Schedule → Kept
 keep_leaf build t = record { depth = 1; weight = 1; schedule = if build then t else None }
 
--- one part under an operator, with this weight
-abbrev pub keep_over : Kept → ℕ → Option Schedule → Kept
-keep_over a w t = record { depth = saturated (a.depth + 1); weight = w; schedule = t }
+-- what is over parts of at most this depth, with its weight
+abbrev pub keep_above : ℕ → ℕ → Option Schedule → Kept
+keep_above below w t = record { depth = saturated (below + 1); weight = w; schedule = t }
 
 -- the weight of one more node
 abbrev pub one_more : ℕ → ℕ
@@ -49,27 +49,24 @@ test_weight (Picked Resetting p) w = one_more (saturated (w + w))
 
 -- two parts joined by an operator
 abbrev pub keep_join : Infix → Kept → Kept → Kept
-keep_join i a b = record {
-  depth = saturated (max a.depth b.depth + 1);
-  weight = one_more (saturated (a.weight + b.weight));
-  schedule = with_both (two (infix_pairing i)) a.schedule b.schedule;
-}
+keep_join i a b =
+    keep_above (max a.depth b.depth) (one_more (saturated (a.weight + b.weight))) (with_both (two (infix_pairing i)) a.schedule b.schedule)
 
 -- a part under a test
 abbrev pub keep_test : Kept → Subject → Cmp → Option ℕ → Kept
-keep_test a s c n = keep_over a (test_weight s a.weight) (with_both (λ t k. over t (test_modifier s (record { cmp = c; than = k }))) a.schedule n)
+keep_test a s c n = keep_above a.depth (test_weight s a.weight) (with_both (λ t k. over t (test_modifier s (record { cmp = c; than = k }))) a.schedule n)
 
 -- a part under `collectAll`
 abbrev pub keep_collect : Kept → Kept
-keep_collect a = keep_over a (one_more a.weight) (option_map (λ t. over t collect_all) a.schedule)
+keep_collect a = keep_above a.depth (one_more a.weight) (option_map (λ t. over t collect_all) a.schedule)
 
 -- a part under a function without a number
 abbrev pub keep_apply : Kept → Func → Kept
-keep_apply a f = keep_over a (one_more a.weight) (option_map (λ t. over t (mapped f)) a.schedule)
+keep_apply a f = keep_above a.depth (one_more a.weight) (option_map (λ t. over t (mapped f)) a.schedule)
 
 -- a part under a function with a number
 abbrev pub keep_scale : Kept → Scale → Option ℕ → Kept
-keep_scale a g n = keep_over a (one_more a.weight) (with_both (λ t k. over t (mapped (scale_by g k))) a.schedule n)
+keep_scale a g n = keep_above a.depth (one_more a.weight) (with_both (λ t k. over t (mapped (scale_by g k))) a.schedule n)
 
 -- composes the sizes of terms, and the terms if they are built
 abbrev pub keep : Bool → Make Kept (Option ℕ)

@@ -249,17 +249,12 @@ fn symbol(bytes: &[u8]) -> Option<Found>
 {
     let first = bytes[0];
     let second = if 1 < bytes.len() { bytes[1] } else { 0 };
-    if let Some(mark) = pair(first, second) {
-        return Some(Found {
-            lexeme: Lexeme::Mark(mark),
-            len: 2,
-        });
-    }
-    let mark = single(first)?;
-    Some(Found {
-        lexeme: Lexeme::Mark(mark),
-        len: 1,
-    })
+    let (mark, len) = match pair(first, second) {
+        Some(mark) => (mark, 2),
+        None => (single(first)?, 1),
+    };
+    let lexeme = Lexeme::Mark(mark);
+    Some(Found { lexeme, len })
 }
 
 // Returns the token at the front.

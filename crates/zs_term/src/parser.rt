@@ -138,7 +138,7 @@ impl Parser {
             option_map mode_of next ≡ begin_leaf (keep self.now.build) mark) }
     {
         Ok(Some(match mark {
-            Mark::PlainWord(form) => Mode::After(Part::plain(self.alloc, self.build, form)?),
+            Mark::PlainWord(form) => Mode::After(Part::plain_leaf(self.alloc, self.build, form)?),
             Mark::CountedWord(form) => Mode::Opening(form),
             Mark::ExponentialWord => Mode::ExpOpening,
             _ => return Ok(None),
@@ -151,7 +151,7 @@ impl Parser {
             option_map mode_of next ≡ base_mark (keep self.now.build) base mark) }
     {
         Ok(Some(match mark {
-            Mark::Close => Mode::After(Part::growing(self.alloc, self.build, base, Some(2))?),
+            Mark::Close => Mode::After(Part::exponential(self.alloc, self.build, base, Some(2))?),
             Mark::Comma => Mode::Factored(base),
             _ => return Ok(None),
         }))
@@ -211,15 +211,12 @@ impl Parser {
                 _ => Ok(None),
             };
         }
-        match self.joined.pop() {
-            None => Ok(None),
-            Some(Joined { before, form, left }) => match mark {
-                Mark::Close => {
-                    self.bare = before;
-                    Ok(Some(Mode::After(Part::join(self.alloc, form, left, part)?)))
-                }
-                _ => Ok(None),
-            },
+        match (self.joined.pop(), mark) {
+            (Some(Joined { before, form, left }), Mark::Close) => {
+                self.bare = before;
+                Ok(Some(Mode::After(Part::join(self.alloc, form, left, part)?)))
+            }
+            (None | Some(_), _) => Ok(None),
         }
     }
 
@@ -277,9 +274,9 @@ impl Parser {
             (step_number (keep self.now.build) (stack_of self.now) (mode_of mode) value)) }
     {
         let part = match mode {
-            Mode::Counting(form) => Part::counted(self.alloc, self.build, form, value)?,
+            Mode::Counting(form) => Part::counted_leaf(self.alloc, self.build, form, value)?,
             Mode::ExpCounting => return Ok(Some(Mode::Based(value))),
-            Mode::Factored(base) => Part::growing(self.alloc, self.build, base, value)?,
+            Mode::Factored(base) => Part::exponential(self.alloc, self.build, base, value)?,
             Mode::Comparing(s, subject, cmp) => Part::test(self.alloc, s, subject, cmp, value)?,
             Mode::Scaling(s, scale) => Part::scale(self.alloc, s, scale, value)?,
             Mode::Start

@@ -2,7 +2,7 @@
 
 ghost use Rattle.std.specs.Prelude.{◌≡◌, IfOk, option_map};
 ghost use Rattle.zs_term.specs.Schedule.{schedule_of};
-ghost use Rattle.zs_term.specs.Parts.{kept_of, keep, keep_join, keep_test, keep_collect, keep_apply, keep_scale, one_more};
+ghost use Rattle.zs_term.specs.Parts.{kept_of, keep, keep_join, keep_test, keep_collect, keep_apply, keep_scale, keep_above};
 
 use crate::forms::{Counted, Infix, Plain, Scale, Subject};
 use crate::term::{Cmp, Func, Term, Test};
@@ -22,7 +22,7 @@ pub struct Part {
 
 impl Part {
     /// Makes a leaf without numbers.
-    pub fn plain(alloc: Global, build: bool, form: Plain) -> Result<Part, AllocError>
+    pub fn plain_leaf(alloc: Global, build: bool, form: Plain) -> Result<Part, AllocError>
         ensures value { IfOk result (λ part. kept_of part ≡ (keep build).plain form) }
     {
         let term = if build { Some(form.of()) } else { None };
@@ -30,7 +30,7 @@ impl Part {
     }
 
     /// Makes a leaf with a number.
-    pub fn counted(
+    pub fn counted_leaf(
         alloc: Global,
         build: bool,
         form: Counted,
@@ -46,7 +46,7 @@ impl Part {
     }
 
     /// Makes an `exponential` with its base and factor.
-    pub fn growing(
+    pub fn exponential(
         alloc: Global,
         build: bool,
         base: Option<u64>,
@@ -63,8 +63,8 @@ impl Part {
 
     // Makes a part one level deeper than its deepest part, with its term if there is one.
     fn above(alloc: Global, below: u64, weight: u64, term: Option<Term>) -> Result<Part, AllocError>
-        ensures value { IfOk result (λ part. kept_of part
-            ≡ record { depth = one_more below; weight = weight; schedule = option_map schedule_of term }) }
+        ensures value { IfOk result (λ part.
+            kept_of part ≡ keep_above below weight (option_map schedule_of term)) }
     {
         let depth = below.saturating_add(1);
         let mut boxed = None;
