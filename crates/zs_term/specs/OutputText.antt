@@ -32,7 +32,7 @@ comma_before (suc place) = codes ","
 abbrev pub IsBeginning : List ℕ → List ℕ → Type 0
 IsBeginning text whole = take (length text) whole ≡ text
 
--- the new text is the old one with these bytes behind it
+-- the new text is the old one and then these bytes
 abbrev pub Adds : String Global → String Global → List ℕ → Type 0
 Adds old new bytes = string_bytes new ≡ string_bytes old ++ bytes
 
