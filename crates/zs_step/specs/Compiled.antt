@@ -1,5 +1,5 @@
 -- What callers know about a compiled schedule.
-use Rattle.std.specs.Prelude.{◌≡◌, ◌≤◌, ℕ, Bool, true, false, ◌∷◌, Some, Result, IfOk, OnOk, IsOk, is_err, IsTrue}
+use Rattle.std.specs.Prelude.{◌≡◌, ◌≤◌, ◌<◌, ◌+◌, ℕ, Bool, true, false, List, ◌∷◌, length, take, slice_index_or, Some, Result, IfOk, OnOk, IsOk, is_err, IsTrue}
 use Rattle.zs_term.specs.declared.term.Term.{Term}
 use Rattle.zs_term.specs.Schedule.{Schedule, schedule_of, weight}
 use Rattle.zs_term.specs.Output.{Output, output_of}
@@ -9,7 +9,7 @@ use Rattle.zs_step.specs.declared.compiled.Compiled.{Compiled}
 use Rattle.zs_step.specs.declared.decision.Decision.{Decision}
 use Rattle.zs_step.specs.declared.fault.StepFault.{StepFault}
 use Rattle.zs_step.specs.declared.stepped.Stepped.{Stepped}
-use Rattle.zs_step.specs.History.{History, last_moment}
+use Rattle.zs_step.specs.History.{History, history_of, last_moment}
 use Rattle.zs_step.specs.Memory.{is_bare, keeps_no_list}
 use Rattle.zs_step.specs.Answer.{answer, answer_of}
 use Rattle.zs_step.specs.Visits.{visits}
@@ -53,6 +53,11 @@ pub record IsResult (t : Schedule) (h : History) (o : Output) (d : Decision) (n 
 -- the same for what a step returns
 abbrev pub IsAnswer : Schedule → History → Stepped → Type 0
 IsAnswer t h r = IsResult t h (output_of r.out) r.decision r.visits
+
+-- each of a list of results is that of a list of pairs up to the pair with its index
+abbrev pub AreAnswers : Schedule → List (ℕ × ℕ) → List Stepped → Type 0
+AreAnswers t pairs results = (j : ℕ) (d : Stepped) → j < length pairs →
+    IsAnswer t (history_of (take (j + 1) pairs)) (slice_index_or results j d)
 
 -- One step of a schedule with a moment and an input, which returns a decision and its visits.
 pub record Advances (old new : Compiled) (now input : ℕ) (result : Result (Decision × ℕ) StepFault) : Type 0 where

@@ -2,12 +2,14 @@
 -- know of them. `a_leaf_counts_its_steps` of `src/laws.rt` reads the number of steps from it.
 use Rattle.std.specs.Prelude.{◌≡◌, ℕ, suc, ◌+◌, ◌*◌, ◌^◌, Option, Some, None, [], ◌∷◌, length}
 use Rattle.zs_term.specs.Saturating.{saturated}
+use Rattle.zs_term.specs.Output.{number}
 use Rattle.zs_term.specs.Schedule.{Leaf as LeafRule, forever, recurs, spaced, fixed, exponential, fibonacci, identity, elapsed, linear, windowed}
+use Rattle.zs_step.specs.declared.decision.Decision.{Decision}
 use Rattle.zs_step.specs.declared.leaf.Past.{Past}
 use Rattle.zs_step.specs.declared.leaf.Leaf.{Leaf}
 use Rattle.zs_step.specs.declared.leaf.Leaf.TheVariants.{Forever, Recurs, Spaced, Fixed, Exponential, Fibonacci, Identity, Elapsed, Linear, Windowed}
 use Rattle.zs_step.specs.History.{History, first_moment}
-use Rattle.zs_step.specs.Answer.{fibonacci_number, next_run}
+use Rattle.zs_step.specs.Answer.{answer, leaf_answer, fibonacci_number, next_run}
 
 -- the rule of a leaf
 abbrev pub state_leaf : Leaf → LeafRule
@@ -82,3 +84,15 @@ LeafRepresents (Identity x) h = Unit {0}
 LeafRepresents (Elapsed m x) h = m ≡ start_of h
 LeafRepresents (Linear n x) h = x ≡ saturated (n * length h)
 LeafRepresents (Windowed p past) h = past ≡ past_of h
+
+-- the output of a leaf, with a decision, is the result of a rule at the last step of a history
+abbrev pub LeafAnswers : Leaf → LeafRule → History → Decision → Type 0
+LeafAnswers l rule h d = answer (number (leaf_output l)) d ≡ leaf_answer rule h
+
+-- the output of a leaf is that of a rule at the last step of a history
+abbrev pub HasOutput : Leaf → LeafRule → History → Type 0
+HasOutput l rule h = number (leaf_output l) ≡ (leaf_answer rule h).output
+
+-- a leaf with the rule's output has the rule's decision
+abbrev pub HasDecision : Leaf → LeafRule → History → Decision → Type 0
+HasDecision l rule h d = HasOutput l rule h → d ≡ (leaf_answer rule h).decision

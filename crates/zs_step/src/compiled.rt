@@ -30,9 +30,9 @@ pub struct Compiled {
 }
 
 impl Compiled {
-    ghost use Rattle.std.specs.Prelude.{◌≡◌, ◌≤◌, ◌++◌, [], IfOk, OnOk, IsOk, true, string_bytes};
+    ghost use Rattle.std.specs.Prelude.{◌≡◌, ◌≤◌, [], IfOk, OnOk, IsOk, true};
     ghost use Rattle.zs_term.specs.Output.{output_of};
-    ghost use Rattle.zs_term.specs.OutputText.{output_text, IsBeginning};
+    ghost use Rattle.zs_term.specs.OutputText.{output_text, Adds, Extends};
     ghost use Rattle.zs_term.specs.Schedule.{schedule_of};
     ghost use Rattle.zs_step.specs.History.{History};
     ghost use Rattle.zs_step.specs.Memory.{is_bare, is_leaf};
@@ -119,8 +119,7 @@ impl Compiled {
     pub fn output(&self) -> Result<Out, AllocError>
         ensures value { IfOk result (λ o. output_of o ≡ compiled_output self.now) }
         ensures succeeds { (h : History) → StandsFor self.now h
-            → is_bare (compiled_schedule self.now) ≡ true
-            → IsOk result }
+            → is_bare (compiled_schedule self.now) ≡ true → IsOk result }
     {
         make_out(self.alloc, &self.state)
     }
@@ -128,13 +127,12 @@ impl Compiled {
     /// Appends the text of the output of the last step. If that fails, the text may end with a part
     /// of it.
     pub fn append_output(&self, text: &mut String) -> Result<(), AllocError>
-        ensures ok { OnOk result
-            (string_bytes text.new
-            ≡ string_bytes text.old ++ output_text (compiled_output self.now)) }
-        ensures kept { IsBeginning (string_bytes text.old) (string_bytes text.new) }
+        ensures ok { OnOk result (Adds text.old text.new (output_text (compiled_output self.now))) }
+        ensures kept { Extends text.old text.new }
     {
         append(text, &self.state)
     }
+
     // Breaks the schedule.
     fn give_up(&mut self) -> StepFault
         ensures broken { self.new ≡ record self.old { broken = true } }

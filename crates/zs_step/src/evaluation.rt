@@ -8,7 +8,8 @@ ghost use Rattle.zs_term.specs.OutputKind.{OutputKind, HasKind};
 ghost use Rattle.zs_term.specs.Kinds.{kind_of};
 ghost use Rattle.zs_step.specs.History.{history_of, earlier, IsInOrder};
 ghost use Rattle.zs_step.specs.Memory.{is_bare};
-ghost use Rattle.zs_step.specs.Answer.{answer_of, answer, waits, from_done, collect_if, collected, is_next, only_if, since_reset};
+ghost use Rattle.zs_step.specs.Answer.{answer_of, answer, waits, from_done, collect_if, collected, is_next, only_if};
+ghost use Rattle.zs_step.specs.Evaluation.{GivesAnswer, IsDoneFrom, IsResetAt};
 
 use crate::decision::Decision;
 use crate::fault::StepFault;
@@ -31,8 +32,7 @@ type Answer = (Out, Decision);
 #[cycle(evaluation)]
 fn evaluate(alloc: Global, term: &Term, history: Pairs<'_>) -> Result<Answer, AllocError>
     requires some { 0 < length history.now }
-    ensures value { IfOk result (λ r.
-        answer (output_of r.0) r.1 ≡ answer_of (schedule_of term.now) (history_of history.now)) }
+    ensures value { IfOk result (λ r. GivesAnswer r (schedule_of term.now) history.now) }
     ensures succeeds { is_bare (schedule_of term.now) ≡ true → IsOk result }
 {
     let now = last_moment(history);
@@ -89,10 +89,8 @@ fn in_turn(
     history: Pairs<'_>,
 ) -> Result<Answer, AllocError>
     requires some { 0 < length history.now }
-    ensures value { IfOk result (λ r.
-        answer (output_of r.0) r.1
-        ≡ answer_of (two and_then (schedule_of first.now) (schedule_of second.now))
-        (history_of history.now)) }
+    ensures value { IfOk result (λ r. GivesAnswer r
+        (two and_then (schedule_of first.now) (schedule_of second.now)) history.now) }
 {
     match first_done(alloc, first, history)? {
         None => {
@@ -117,10 +115,8 @@ fn while_output(
     history: Pairs<'_>,
 ) -> Result<Answer, AllocError>
     requires some { 0 < length history.now }
-    ensures value { IfOk result (λ r.
-        answer (output_of r.0) r.1
-        ≡ answer_of (over (schedule_of part.now) (while_output pick test))
-        (history_of history.now)) }
+    ensures value { IfOk result (λ r. GivesAnswer r
+        (over (schedule_of part.now) (while_output pick test)) history.now) }
     ensures succeeds { is_bare (schedule_of part.now) ≡ true → IsOk result }
 {
     let x = evaluate(alloc, part, history)?;
@@ -132,9 +128,8 @@ fn while_output(
 #[cycle(evaluation)]
 fn collecting(alloc: Global, part: &Term, history: Pairs<'_>) -> Result<Answer, AllocError>
     requires some { 0 < length history.now }
-    ensures value { IfOk result (λ r.
-        answer (output_of r.0) r.1
-        ≡ answer_of (over (schedule_of part.now) collect_all) (history_of history.now)) }
+    ensures value { IfOk result (λ r. GivesAnswer r
+        (over (schedule_of part.now) collect_all) history.now) }
 {
     let last = evaluate(alloc, part, history)?;
     let items = outputs_before(alloc, part, history)?;
@@ -151,9 +146,8 @@ fn since_last_reset(
     history: Pairs<'_>,
 ) -> Result<Answer, AllocError>
     requires some { 0 < length history.now }
-    ensures value { IfOk result (λ r.
-        answer (output_of r.0) r.1
-        ≡ answer_of (over (schedule_of part.now) (reset_when pick test)) (history_of history.now)) }
+    ensures value { IfOk result (λ r. GivesAnswer r
+        (over (schedule_of part.now) (reset_when pick test)) history.now) }
     ensures succeeds { is_bare (schedule_of part.now) ≡ true → IsOk result }
 {
     let start = reset_start(alloc, part, pick, test, history)?;
@@ -230,8 +224,7 @@ fn decision_of(answer: Answer) -> Decision
 
 // Appends the output of a step that continues.
 fn collect(items: &mut Vec<Out>, answer: Answer) -> Result<(), AllocError>
-    ensures value { OnOk result
-        (outputs_of items.new.items
+    ensures value { OnOk result (outputs_of items.new.items
         ≡ collect_if (is_next answer.1) (outputs_of items.old.items) (output_of answer.0)) }
 {
     let (out, decision) = answer;
@@ -247,9 +240,7 @@ fn first_done(alloc: Global, term: &Term, history: Pairs<'_>) -> Result<Option<u
     ensures none { IfOk result (λ k.
         IfNone k (from_done (answer_of (schedule_of term.now)) (history_of history.now) ≡ None)) }
     ensures some { IfOk result (λ k.
-        IfSome k (λ i.
-        from_done (answer_of (schedule_of term.now)) (history_of history.now)
-        ≡ Some (history_of (drop i history.now)))) }
+        IfSome k (λ i. IsDoneFrom (schedule_of term.now) history.now i)) }
     ensures within { IfOk result (λ k. IfSome k (λ i. i < length history.now)) }
 {
     for i in 0..history.len() {
@@ -283,9 +274,7 @@ fn reset_start(
     history: Pairs<'_>,
 ) -> Result<usize, AllocError>
     requires some { 0 < length history.now }
-    ensures since { IfOk result (λ i.
-        since_reset (answer_of (schedule_of term.now)) pick test (history_of history.now)
-        ≡ history_of (drop i history.now)) }
+    ensures since { IfOk result (λ i. IsResetAt (schedule_of term.now) pick test history.now i) }
     ensures within { IfOk result (λ i. i < length history.now) }
     ensures succeeds { is_bare (schedule_of term.now) ≡ true → IsOk result }
 {
@@ -311,8 +300,7 @@ fn is_passed(answer: Answer, pick: Pick, test: Test) -> bool
 #[cycle(evaluation)]
 fn outputs_before(alloc: Global, term: &Term, history: Pairs<'_>) -> Result<Vec<Out>, AllocError>
     requires some { 0 < length history.now }
-    ensures value { IfOk result (λ v.
-        outputs_of v.items
+    ensures value { IfOk result (λ v. outputs_of v.items
         ≡ collected (answer_of (schedule_of term.now)) (earlier (history_of history.now))) }
 {
     let mut items = Vec::new(alloc);
@@ -334,8 +322,7 @@ pub fn plain(
 ) -> Result<(Out, Decision), StepFault>
     requires some { 0 < length history.now }
     requires order { IsInOrder (history_of history.now) }
-    ensures answered { IfOk result (λ r.
-        answer (output_of r.0) r.1 ≡ answer_of (schedule_of checked.now) (history_of history.now)) }
+    ensures answered { IfOk result (λ r. GivesAnswer r (schedule_of checked.now) history.now) }
     ensures kinded { IfOk result (λ r.
         (a : OutputKind) → kind_of (schedule_of checked.now) ≡ Some a → HasKind (output_of r.0) a) }
     // A schedule that makes no pair, no side of a choice and no list needs no memory.

@@ -1,10 +1,9 @@
 //! Steps a schedule through a list of moments and inputs.
 
-ghost use Rattle.std.specs.Prelude.{◌≡◌, ℕ, ◌+◌, ◌<◌, length, take, slice_index_or, vec_len, ◌++◌, ◌∷◌, [], IfOk, OnOk};
+ghost use Rattle.std.specs.Prelude.{◌≡◌, length, vec_len, ◌++◌, ◌∷◌, [], IfOk, OnOk};
 ghost use Rattle.zs_term.specs.Schedule.{schedule_of};
 ghost use Rattle.zs_step.specs.History.{history_of, IsInOrder};
-ghost use Rattle.zs_step.specs.Compiled.{IsAnswer};
-ghost use Rattle.zs_step.specs.declared.stepped.Stepped.{Stepped};
+ghost use Rattle.zs_step.specs.Compiled.{AreAnswers};
 
 use crate::compiled::Compiled;
 use crate::fault::StepFault;
@@ -21,10 +20,7 @@ pub fn follow(
 ) -> Result<Vec<Stepped>, StepFault>
     requires order { IsInOrder (history_of pairs.now) }
     ensures len { IfOk result (λ v. vec_len v ≡ length pairs.now) }
-    ensures ok { IfOk result (λ v.
-        (j : ℕ) (d : Stepped) → j < length pairs.now
-        → IsAnswer (schedule_of checked) (history_of (take (j + 1) pairs.now))
-        (slice_index_or v.items j d)) }
+    ensures ok { IfOk result (λ v. AreAnswers (schedule_of checked) pairs.now v.items) }
 {
     let mut compiled = Compiled::new(alloc, checked)?;
     let mut answers = Vec::new(alloc);

@@ -1,10 +1,8 @@
 //! A schedule without parts: its numbers, and what its output and its next step need to know.
 
 ghost use Rattle.std.specs.Prelude.{◌≡◌, ℕ, ◌∷◌, []};
-ghost use Rattle.zs_term.specs.Output.{number};
 ghost use Rattle.zs_step.specs.History.{History};
-ghost use Rattle.zs_step.specs.Answer.{answer, leaf_answer};
-ghost use Rattle.zs_step.specs.LeafState.{state_leaf, leaf_output, before_in, next_count, next_past, LeafRepresents};
+ghost use Rattle.zs_step.specs.LeafState.{state_leaf, leaf_output, before_in, next_count, next_past, LeafRepresents, LeafAnswers, HasOutput, HasDecision};
 
 use crate::decision::Decision;
 use crate::leaves::{run_after, window_end};
@@ -81,8 +79,7 @@ impl Leaf {
     pub fn step(&mut self, now: u64, input: u64) -> Decision
         ensures same { state_leaf self.new ≡ state_leaf self.old }
         ensures answered { (h : History) → LeafRepresents self.old h
-            → answer (number (leaf_output self.new)) result
-            ≡ leaf_answer (state_leaf self.old) ((now, input) ∷ h) }
+            → LeafAnswers self.new (state_leaf self.old) ((now, input) ∷ h) result }
         ensures stands { (h : History) → LeafRepresents self.old h
             → LeafRepresents self.new ((now, input) ∷ h) }
     {
@@ -94,8 +91,7 @@ impl Leaf {
     fn update(&mut self, now: u64, input: u64)
         ensures same { state_leaf self.new ≡ state_leaf self.old }
         ensures output { (h : History) → LeafRepresents self.old h
-            → number (leaf_output self.new)
-            ≡ (leaf_answer (state_leaf self.old) ((now, input) ∷ h)).output }
+            → HasOutput self.new (state_leaf self.old) ((now, input) ∷ h) }
         ensures stands { (h : History) → LeafRepresents self.old h
             → LeafRepresents self.new ((now, input) ∷ h) }
     {
@@ -138,9 +134,7 @@ impl Leaf {
     // Returns the decision of the last step, which was at this moment.
     fn decide(&self, now: u64) -> Decision
         ensures value { (h : History) (input : ℕ) → LeafRepresents self.now ((now, input) ∷ h)
-            → number (leaf_output self.now)
-            ≡ (leaf_answer (state_leaf self.now) ((now, input) ∷ h)).output
-            → result ≡ (leaf_answer (state_leaf self.now) ((now, input) ∷ h)).decision }
+            → HasDecision self.now (state_leaf self.now) ((now, input) ∷ h) result }
     {
         match self {
             Leaf::Forever { .. } | Leaf::Identity { .. } | Leaf::Elapsed { .. } => {

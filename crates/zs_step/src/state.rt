@@ -168,9 +168,8 @@ fn part(alloc: Global, term: &Term) -> Result<Box<State>, AllocError>
 // Returns the states of two parts before their first step, in one box.
 #[cycle(making)]
 fn parts(alloc: Global, first: &Term, second: &Term) -> Result<Box<(State, State)>, AllocError>
-    ensures made_of { IfOk result (λ s.
-        (state_schedule s.value.0 ≡ schedule_of first.now)
-        × (state_schedule s.value.1 ≡ schedule_of second.now)) }
+    ensures first { IfOk result (λ s. state_schedule s.value.0 ≡ schedule_of first.now) }
+    ensures second { IfOk result (λ s. state_schedule s.value.1 ≡ schedule_of second.now) }
     ensures represents { IfOk result (λ s. Represents s.value.0 [] × Represents s.value.1 []) }
 {
     let parts = (state_of(alloc, first)?, state_of(alloc, second)?);

@@ -8,7 +8,7 @@ ghost use Rattle.zs_step.specs.History.{History};
 ghost use Rattle.zs_step.specs.Memory.{keeps_no_list};
 ghost use Rattle.zs_step.specs.Numbers.{IsNumbers};
 ghost use Rattle.zs_step.specs.State.{state_schedule, last_output, side_output, Represents, IsJoined, Answers, CountsOn};
-ghost use Rattle.zs_step.specs.declared.state.State.TheVariants.{Both', Either', AndThen', ResetWhen'};
+ghost use Rattle.zs_step.specs.Stepping.{BothAnswers, BothCounts, EitherAnswers, EitherCounts, AndThenAnswers, AndThenCounts, ResetAnswers, ResetCounts};
 
 use crate::decision::Decision;
 use crate::numbers::Numbers;
@@ -118,14 +118,11 @@ pub(crate) fn step_node(state: &mut State, step: &Step, trace: &mut Trace) -> De
 #[cycle(stepping)]
 #[inline(never)]
 fn step_both(parts: &mut (State, State), step: &Step, trace: &mut Trace) -> Decision
-    requires within { trace.old.visits + weight (state_schedule parts.old.0) + weight (state_schedule parts.old.1) < 2 ^ 64 }
+    requires within { trace.old.visits + weight (state_schedule parts.old.0)
+        + weight (state_schedule parts.old.1) < 2 ^ 64 }
     requires joined { IsJoined parts.old.0 × IsJoined parts.old.1 }
-    ensures answers { (p : _)
-        → Answers (Both' p parts.old.0 parts.old.1)
-        (Both' p parts.new.0 parts.new.1) step.now.moment step.now.input result }
-    ensures counts { (p : _)
-        → CountsOn (Both' p parts.old.0 parts.old.1)
-        (Both' p parts.new.0 parts.new.1) step.now.moment step.now.input
+    ensures answers { BothAnswers parts.old parts.new step.now.moment step.now.input result }
+    ensures counts { BothCounts parts.old parts.new step.now.moment step.now.input
         trace.old.visits trace.new.visits }
     ensures numbers { IsNumbers trace.new.numbers (pair (last_output parts.new.0) (last_output parts.new.1)) }
     ensures same { (state_schedule parts.new.0 ≡ state_schedule parts.old.0)
@@ -142,14 +139,11 @@ fn step_both(parts: &mut (State, State), step: &Step, trace: &mut Trace) -> Deci
 #[cycle(stepping)]
 #[inline(never)]
 fn step_either(parts: &mut (State, State), step: &Step, trace: &mut Trace) -> Decision
-    requires within { trace.old.visits + weight (state_schedule parts.old.0) + weight (state_schedule parts.old.1) < 2 ^ 64 }
+    requires within { trace.old.visits + weight (state_schedule parts.old.0)
+        + weight (state_schedule parts.old.1) < 2 ^ 64 }
     requires joined { IsJoined parts.old.0 × IsJoined parts.old.1 }
-    ensures answers { (p : _)
-        → Answers (Either' p parts.old.0 parts.old.1)
-        (Either' p parts.new.0 parts.new.1) step.now.moment step.now.input result }
-    ensures counts { (p : _)
-        → CountsOn (Either' p parts.old.0 parts.old.1)
-        (Either' p parts.new.0 parts.new.1) step.now.moment step.now.input
+    ensures answers { EitherAnswers parts.old parts.new step.now.moment step.now.input result }
+    ensures counts { EitherCounts parts.old parts.new step.now.moment step.now.input
         trace.old.visits trace.new.visits }
     ensures numbers { IsNumbers trace.new.numbers (pair (last_output parts.new.0) (last_output parts.new.1)) }
     ensures same { (state_schedule parts.new.0 ≡ state_schedule parts.old.0)
@@ -173,16 +167,12 @@ fn step_and_then(
     trace: &mut Trace,
 ) -> Decision
     requires within { trace.old.visits + weight (state_schedule parts.old.0)
-        + weight (state_schedule parts.old.1)
-        < 2 ^ 64 }
+        + weight (state_schedule parts.old.1) < 2 ^ 64 }
     requires joined { IsJoined parts.old.0 × IsJoined parts.old.1 }
-    ensures answers { (p : _)
-        → Answers (AndThen' done.old p parts.old.0 parts.old.1)
-        (AndThen' done.new p parts.new.0 parts.new.1) step.now.moment step.now.input result }
-    ensures counts { (p : _)
-        → CountsOn (AndThen' done.old p parts.old.0 parts.old.1)
-        (AndThen' done.new p parts.new.0 parts.new.1) step.now.moment step.now.input
-        trace.old.visits trace.new.visits }
+    ensures answers { AndThenAnswers done.old done.new parts.old parts.new
+        step.now.moment step.now.input result }
+    ensures counts { AndThenCounts done.old done.new parts.old parts.new
+        step.now.moment step.now.input trace.old.visits trace.new.visits }
     ensures numbers { IsNumbers trace.new.numbers
         (side_output done.new (last_output parts.new.0) (last_output parts.new.1)) }
     ensures same { (state_schedule parts.new.0 ≡ state_schedule parts.old.0)
@@ -213,11 +203,9 @@ fn step_reset_when(
 ) -> Decision
     requires within { trace.old.visits + 2 * weight (state_schedule part.old) < 2 ^ 64 }
     requires joined { IsJoined part.old }
-    ensures answers { (p : _)
-        → Answers (ResetWhen' p part.old pick test) (ResetWhen' p part.new pick test)
+    ensures answers { ResetAnswers pick test part.old part.new
         step.now.moment step.now.input result }
-    ensures counts { (p : _)
-        → CountsOn (ResetWhen' p part.old pick test) (ResetWhen' p part.new pick test)
+    ensures counts { ResetCounts pick test part.old part.new
         step.now.moment step.now.input trace.old.visits trace.new.visits }
     ensures numbers { IsNumbers trace.new.numbers (last_output part.new) }
     ensures same { state_schedule part.new ≡ state_schedule part.old }

@@ -1,8 +1,8 @@
 //! The output of a state's last step: the number that tests read, the output itself, and its text.
 
-ghost use Rattle.std.specs.Prelude.{◌≡◌, ◌≤◌, ◌++◌, true, IfOk, IsOk, OnOk, string_bytes};
+ghost use Rattle.std.specs.Prelude.{◌≡◌, ◌≤◌, true, IfOk, IsOk, OnOk};
 ghost use Rattle.zs_term.specs.Output.{output_of, pair, applied};
-ghost use Rattle.zs_term.specs.OutputText.{output_text, IsBeginning};
+ghost use Rattle.zs_term.specs.OutputText.{output_text, Adds, Extends};
 ghost use Rattle.zs_step.specs.Memory.{is_bare};
 ghost use Rattle.zs_step.specs.Numbers.{IsNumbers, IsSource, returns_piece, height};
 ghost use Rattle.zs_step.specs.State.{last_output, side_output, state_schedule};
@@ -125,9 +125,8 @@ fn make_both(alloc: Global, parts: &(State, State)) -> Result<Out, AllocError>
 // Appends the text of the output. If that fails, the text may end with a part of it.
 #[cycle(texts)]
 pub(crate) fn append(text: &mut String, state: &State) -> Result<(), AllocError>
-    ensures ok { OnOk result
-        (string_bytes text.new ≡ string_bytes text.old ++ output_text (last_output state.now)) }
-    ensures kept { IsBeginning (string_bytes text.old) (string_bytes text.new) }
+    ensures ok { OnOk result (Adds text.old text.new (output_text (last_output state.now))) }
+    ensures kept { Extends text.old text.new }
 {
     match source(state) {
         State::Both { parts } => append_both(text, parts),
@@ -150,11 +149,9 @@ pub(crate) fn append(text: &mut String, state: &State) -> Result<(), AllocError>
 // Appends the text of a pair of the outputs of two states.
 #[cycle(texts)]
 fn append_both(text: &mut String, parts: &(State, State)) -> Result<(), AllocError>
-    ensures ok { OnOk result
-        (string_bytes text.new
-        ≡ string_bytes text.old
-        ++ output_text (pair (last_output parts.now.0) (last_output parts.now.1))) }
-    ensures kept { IsBeginning (string_bytes text.old) (string_bytes text.new) }
+    ensures ok { OnOk result (Adds text.old text.new
+        (output_text (pair (last_output parts.now.0) (last_output parts.now.1)))) }
+    ensures kept { Extends text.old text.new }
 {
     text.push_str("(")?;
     append(text, &parts.0)?;
