@@ -7,11 +7,15 @@ use Rattle.zs_term.specs.Output.{output_of}
 use Rattle.zs_term.specs.Schedule.{Schedule}
 use Rattle.zs_step.specs.declared.decision.Decision.{Decision}
 use Rattle.zs_step.specs.History.{history_of}
-use Rattle.zs_step.specs.Answer.{answer, answer_of, from_done, since_reset}
+use Rattle.zs_step.specs.Answer.{Answer, answer, answer_of, from_done, since_reset}
+
+-- an output and a decision are this result
+abbrev pub Gives : Out × Decision → Answer → Type 0
+Gives r a = answer (output_of r.0) r.1 ≡ a
 
 -- an output and a decision are the schedule's result at the last pair
 abbrev pub GivesAnswer : Out × Decision → Schedule → List (ℕ × ℕ) → Type 0
-GivesAnswer r t pairs = answer (output_of r.0) r.1 ≡ answer_of t (history_of pairs)
+GivesAnswer r t pairs = Gives r (answer_of t (history_of pairs))
 
 -- the schedule is first done at the pair with this index
 abbrev pub IsDoneFrom : Schedule → List (ℕ × ℕ) → ℕ → Type 0

@@ -10,7 +10,8 @@ use Rattle.zs_step.specs.State.{Answers, CountsOn}
 
 -- what a step decides, with the output that a `&&` then has, is its result
 abbrev pub BothAnswers : State × State → State × State → ℕ → ℕ → Decision → Type 0
-BothAnswers old new now input d = (p : _) → Answers (Both' p old.0 old.1) (Both' p new.0 new.1) now input d
+BothAnswers old new now input d =
+    (p : _) → Answers (Both' p old.0 old.1) (Both' p new.0 new.1) now input d
 
 -- a step of a `&&` counts its visits
 abbrev pub BothCounts : State × State → State × State → ℕ → ℕ → ℕ → ℕ → Type 0
@@ -19,7 +20,8 @@ BothCounts old new now input before after =
 
 -- the same of a `||`
 abbrev pub EitherAnswers : State × State → State × State → ℕ → ℕ → Decision → Type 0
-EitherAnswers old new now input d = (p : _) → Answers (Either' p old.0 old.1) (Either' p new.0 new.1) now input d
+EitherAnswers old new now input d =
+    (p : _) → Answers (Either' p old.0 old.1) (Either' p new.0 new.1) now input d
 
 -- a step of a `||` counts its visits
 abbrev pub EitherCounts : State × State → State × State → ℕ → ℕ → ℕ → ℕ → Type 0
@@ -33,12 +35,13 @@ AndThenAnswers was is old new now input d =
 
 -- a step of an `andThenEither` counts its visits
 abbrev pub AndThenCounts : Bool → Bool → State × State → State × State → ℕ → ℕ → ℕ → ℕ → Type 0
-AndThenCounts was is old new now input before after =
-    (p : _) → CountsOn (AndThen' was p old.0 old.1) (AndThen' is p new.0 new.1) now input before after
+AndThenCounts was is old new now input n m =
+    (p : _) → CountsOn (AndThen' was p old.0 old.1) (AndThen' is p new.0 new.1) now input n m
 
 -- the same of a `resetWhen`
 abbrev pub ResetAnswers : Pick → Test → State → State → ℕ → ℕ → Decision → Type 0
-ResetAnswers k t old new now input d = (p : _) → Answers (ResetWhen' p old k t) (ResetWhen' p new k t) now input d
+ResetAnswers k t old new now input d =
+    (p : _) → Answers (ResetWhen' p old k t) (ResetWhen' p new k t) now input d
 
 -- a step of a `resetWhen` counts its visits
 abbrev pub ResetCounts : Pick → Test → State → State → ℕ → ℕ → ℕ → ℕ → Type 0

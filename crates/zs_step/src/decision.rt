@@ -20,14 +20,11 @@ impl Decision {
     pub fn later(self, other: Decision) -> Decision
         ensures value { result ≡ later_of self other }
     {
-        match self {
-            Decision::Stop => self,
-            Decision::Next(x) => match other {
-                Decision::Stop => other,
-                Decision::Next(y) => Decision::Next(
-                    Interval::after(x).intersect(&Interval::after(y)).start(),
-                ),
-            },
+        match (self, other) {
+            (Decision::Next(x), Decision::Next(y)) => {
+                Decision::Next(Interval::after(x).intersect(&Interval::after(y)).start())
+            }
+            (Decision::Stop, _) | (_, Decision::Stop) => Decision::Stop,
         }
     }
 
@@ -35,14 +32,11 @@ impl Decision {
     pub fn earlier(self, other: Decision) -> Decision
         ensures value { result ≡ earlier_of self other }
     {
-        match self {
-            Decision::Stop => other,
-            Decision::Next(x) => match other {
-                Decision::Stop => self,
-                Decision::Next(y) => Decision::Next(
-                    Interval::after(x).union(&Interval::after(y)).start(),
-                ),
-            },
+        match (self, other) {
+            (Decision::Next(x), Decision::Next(y)) => {
+                Decision::Next(Interval::after(x).union(&Interval::after(y)).start())
+            }
+            (Decision::Stop, one) | (one, Decision::Stop) => one,
         }
     }
 
@@ -57,10 +51,7 @@ impl Decision {
     pub(crate) fn is_next(self) -> bool
         ensures value { result ≡ is_next self }
     {
-        match self {
-            Decision::Stop => false,
-            Decision::Next(_) => true,
-        }
+        matches!(self, Decision::Next(_))
     }
 
     // Continues a delay after a moment; saturates.

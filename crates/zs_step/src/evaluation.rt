@@ -9,7 +9,7 @@ ghost use Rattle.zs_term.specs.Kinds.{kind_of};
 ghost use Rattle.zs_step.specs.History.{history_of, earlier, IsInOrder};
 ghost use Rattle.zs_step.specs.Memory.{is_bare};
 ghost use Rattle.zs_step.specs.Answer.{answer_of, answer, waits, from_done, collect_if, collected, is_next, only_if};
-ghost use Rattle.zs_step.specs.Evaluation.{GivesAnswer, IsDoneFrom, IsResetAt};
+ghost use Rattle.zs_step.specs.Evaluation.{Gives, GivesAnswer, IsDoneFrom, IsResetAt};
 
 use crate::decision::Decision;
 use crate::fault::StepFault;
@@ -51,9 +51,9 @@ fn evaluate(alloc: Global, term: &Term, history: Pairs<'_>) -> Result<Answer, Al
             let end = window_end(*period, first_moment(history), now);
             Ok(count_answer(history, Decision::Next(end)))
         }
-        Term::Exponential(b, f) => Ok(waiting(history, exponential_delay(*b, *f, history))),
-        Term::Fibonacci(one) => Ok(waiting(history, fibonacci_delay(*one, history))),
-        Term::Linear(unit) => Ok(waiting(history, linear_delay(*unit, history))),
+        Term::Exponential(b, f) => Ok(wait_answer(history, exponential_delay(*b, *f, history))),
+        Term::Fibonacci(one) => Ok(wait_answer(history, fibonacci_delay(*one, history))),
+        Term::Linear(unit) => Ok(wait_answer(history, linear_delay(*unit, history))),
         Term::Identity => Ok((Out::Num(last_input(history)), Decision::Next(now))),
         Term::Elapsed => {
             let time = now.saturating_sub(first_moment(history));
@@ -73,7 +73,7 @@ fn evaluate(alloc: Global, term: &Term, history: Pairs<'_>) -> Result<Answer, Al
             Ok(only_if(evaluate(alloc, s, history)?, passed))
         }
         Term::WhileOutput(s, pick, test) => while_output(alloc, s, *pick, *test, history),
-        Term::CollectAll(s) => collecting(alloc, s, history),
+        Term::CollectAll(s) => collect_all(alloc, s, history),
         Term::Map(s, func) => Ok(map_answer(evaluate(alloc, s, history)?, *func)),
         Term::ResetWhen(s, pick, test) => since_last_reset(alloc, s, *pick, *test, history),
     }
@@ -126,7 +126,7 @@ fn while_output(
 
 // Evaluates a term whose outputs are collected.
 #[cycle(evaluation)]
-fn collecting(alloc: Global, part: &Term, history: Pairs<'_>) -> Result<Answer, AllocError>
+fn collect_all(alloc: Global, part: &Term, history: Pairs<'_>) -> Result<Answer, AllocError>
     requires some { 0 < length history.now }
     ensures value { IfOk result (λ r. GivesAnswer r
         (over (schedule_of part.now) collect_all) history.now) }
@@ -162,15 +162,14 @@ fn pair_answers(
     decision: Decision,
 ) -> Result<Answer, AllocError>
     ensures value { IfOk result (λ r.
-        answer (output_of r.0) r.1 ≡ answer (pair (output_of first) (output_of second)) decision) }
+        Gives r (answer (pair (output_of first) (output_of second)) decision)) }
 {
     Ok((make_pair(alloc, first, second)?, decision))
 }
 
 // Stops unless a test passed.
 fn only_if(from: Answer, passed: bool) -> Answer
-    ensures value { answer (output_of result.0) result.1
-        ≡ answer (output_of from.0) (only_if passed from.1) }
+    ensures value { Gives result (answer (output_of from.0) (only_if passed from.1)) }
 {
     let (out, decision) = from;
     (out, decision.only_if(passed))
@@ -178,8 +177,7 @@ fn only_if(from: Answer, passed: bool) -> Answer
 
 // Applies a function to the output.
 fn map_answer(from: Answer, func: Func) -> Answer
-    ensures value { answer (output_of result.0) result.1
-        ≡ answer (applied func (output_of from.0)) from.1 }
+    ensures value { Gives result (answer (applied func (output_of from.0)) from.1) }
 {
     let (out, decision) = from;
     (func.apply(out), decision)
@@ -188,16 +186,16 @@ fn map_answer(from: Answer, func: Func) -> Answer
 // Returns the number of earlier steps, with a decision.
 fn count_answer(history: Pairs<'_>, decision: Decision) -> Answer
     requires some { 0 < length history.now }
-    ensures value { answer (output_of result.0) result.1
-        ≡ answer (number (saturated (length (earlier (history_of history.now))))) decision }
+    ensures value { Gives result
+        (answer (number (saturated (length (earlier (history_of history.now))))) decision) }
 {
     (Out::Num(steps_before(history)), decision)
 }
 
 // Returns a delay as the output, and continues after it.
-fn waiting(history: Pairs<'_>, delay: u64) -> Answer
+fn wait_answer(history: Pairs<'_>, delay: u64) -> Answer
     requires some { 0 < length history.now }
-    ensures value { answer (output_of result.0) result.1 ≡ waits delay (history_of history.now) }
+    ensures value { Gives result (waits delay (history_of history.now)) }
 {
     (
         Out::Num(delay),

@@ -8,7 +8,7 @@ ghost use Rattle.zs_step.specs.Compiled.{AreAnswers};
 use crate::compiled::Compiled;
 use crate::fault::StepFault;
 use crate::stepped::Stepped;
-use std::alloc::Global;
+use std::alloc::{AllocError, Global};
 use zs_term::Checked;
 
 /// Steps a new `Compiled` once for each pair (moment, input), oldest first, and returns all
@@ -32,11 +32,9 @@ pub fn follow(
 }
 
 // Appends one more result.
-fn keep(answers: &mut Vec<Stepped>, stepped: Stepped) -> Result<(), StepFault>
+fn keep(answers: &mut Vec<Stepped>, stepped: Stepped) -> Result<(), AllocError>
     ensures ok { OnOk result (answers.new.items ≡ answers.old.items ++ stepped ∷ []) }
 {
-    match answers.push(stepped) {
-        Ok(()) => Ok(()),
-        Err(_) => Err(StepFault::Memory),
-    }
+    answers.push(stepped)?;
+    Ok(())
 }

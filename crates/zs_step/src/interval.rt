@@ -28,17 +28,13 @@ impl Interval {
     pub fn intersect(&self, other: &Interval) -> Interval
         ensures value { starts_at result ≡ max (starts_at self.now) (starts_at other.now) }
     {
-        Interval {
-            start: self.start.max(other.start),
-        }
+        Interval::after(self.start.max(other.start))
     }
 
     /// Returns the moments in at least one, from the earlier start on.
     pub fn union(&self, other: &Interval) -> Interval
         ensures value { starts_at result ≡ min (starts_at self.now) (starts_at other.now) }
     {
-        Interval {
-            start: self.start.min(other.start),
-        }
+        Interval::after(self.start.min(other.start))
     }
 }

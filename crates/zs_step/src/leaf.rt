@@ -161,12 +161,9 @@ impl Leaf {
             Leaf::Forever { before } => before.unwrap_or(0),
             Leaf::Recurs { before, .. } => before.unwrap_or(0),
             Leaf::Spaced { before, .. } => before.unwrap_or(0),
-            Leaf::Fixed { past, .. } => before_in(*past),
-            Leaf::Windowed { past, .. } => before_in(*past),
-            Leaf::Exponential { last, .. } => *last,
-            Leaf::Fibonacci { last, .. } => *last,
-            Leaf::Identity { last } => *last,
-            Leaf::Linear { last, .. } => *last,
+            Leaf::Fixed { past, .. } | Leaf::Windowed { past, .. } => before_in(*past),
+            Leaf::Exponential { last, .. } | Leaf::Fibonacci { last, .. } => *last,
+            Leaf::Identity { last } | Leaf::Linear { last, .. } => *last,
             Leaf::Elapsed { time, .. } => *time,
         }
     }
@@ -201,34 +198,23 @@ impl Leaf {
 fn count(before: Option<u64>) -> u64
     ensures value { result ≡ next_count before }
 {
-    match before {
-        None => 0,
-        Some(steps) => steps.saturating_add(1),
-    }
+    before.map_or(0, |steps| steps.saturating_add(1))
 }
 
 // Takes one more step.
 fn pass(past: Option<Past>, now: u64) -> Past
     ensures value { result ≡ next_past past now }
 {
-    match past {
-        None => Past {
-            first: now,
-            before: 0,
-        },
-        Some(Past { first, before }) => Past {
-            first,
-            before: before.saturating_add(1),
-        },
-    }
+    let (first, before) = match past {
+        None => (now, 0),
+        Some(Past { first, before }) => (first, before.saturating_add(1)),
+    };
+    Past { first, before }
 }
 
 // Returns the number of steps before the last one, or 0.
 fn before_in(past: Option<Past>) -> u64
     ensures value { result ≡ before_in past }
 {
-    match past {
-        None => 0,
-        Some(Past { before, .. }) => before,
-    }
+    past.map_or(0, |past| past.before)
 }

@@ -124,7 +124,8 @@ fn step_both(parts: &mut (State, State), step: &Step, trace: &mut Trace) -> Deci
     ensures answers { BothAnswers parts.old parts.new step.now.moment step.now.input result }
     ensures counts { BothCounts parts.old parts.new step.now.moment step.now.input
         trace.old.visits trace.new.visits }
-    ensures numbers { IsNumbers trace.new.numbers (pair (last_output parts.new.0) (last_output parts.new.1)) }
+    ensures numbers { IsNumbers trace.new.numbers
+        (pair (last_output parts.new.0) (last_output parts.new.1)) }
     ensures same { (state_schedule parts.new.0 ≡ state_schedule parts.old.0)
         × (state_schedule parts.new.1 ≡ state_schedule parts.old.1) }
 {
@@ -145,7 +146,8 @@ fn step_either(parts: &mut (State, State), step: &Step, trace: &mut Trace) -> De
     ensures answers { EitherAnswers parts.old parts.new step.now.moment step.now.input result }
     ensures counts { EitherCounts parts.old parts.new step.now.moment step.now.input
         trace.old.visits trace.new.visits }
-    ensures numbers { IsNumbers trace.new.numbers (pair (last_output parts.new.0) (last_output parts.new.1)) }
+    ensures numbers { IsNumbers trace.new.numbers
+        (pair (last_output parts.new.0) (last_output parts.new.1)) }
     ensures same { (state_schedule parts.new.0 ≡ state_schedule parts.old.0)
         × (state_schedule parts.new.1 ≡ state_schedule parts.old.1) }
 {

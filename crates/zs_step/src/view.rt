@@ -49,10 +49,8 @@ fn piece(part: &State, func: Func) -> &State
         → is_bare (state_schedule result.now) ≡ true }
 {
     match (func, source(part)) {
-        (Func::First, State::Both { parts }) => &parts.0,
-        (Func::First, State::Either { parts }) => &parts.0,
-        (Func::Second, State::Both { parts }) => &parts.1,
-        (Func::Second, State::Either { parts }) => &parts.1,
+        (Func::First, State::Both { parts } | State::Either { parts }) => &parts.0,
+        (Func::Second, State::Both { parts } | State::Either { parts }) => &parts.1,
         (Func::Merge, State::AndThen { done, parts }) => { if *done { &parts.1 } else { &parts.0 } }
         (_, whole) => whole,
     }
@@ -64,8 +62,9 @@ pub(crate) fn read_numbers(state: &State) -> Numbers
 {
     match source(state) {
         State::Leaf(leaf) => Numbers::One(leaf.output()),
-        State::Both { parts } => read_numbers(&parts.0).pair(read_numbers(&parts.1)),
-        State::Either { parts } => read_numbers(&parts.0).pair(read_numbers(&parts.1)),
+        State::Both { parts } | State::Either { parts } => {
+            read_numbers(&parts.0).pair(read_numbers(&parts.1))
+        }
         State::AndThen { .. } => Numbers::Side,
         State::CollectAll { kept, .. } => Numbers::Size(kept.len()),
         State::Map { part, func } => match read_numbers(part).mapped(*func) {
@@ -97,8 +96,7 @@ pub(crate) fn make_out(alloc: Global, state: &State) -> Result<Out, AllocError>
     ensures succeeds { is_bare (state_schedule state.now) ≡ true → IsOk result }
 {
     match source(state) {
-        State::Both { parts } => make_both(alloc, parts),
-        State::Either { parts } => make_both(alloc, parts),
+        State::Both { parts } | State::Either { parts } => make_both(alloc, parts),
         State::AndThen { done, parts } => {
             if *done {
                 make_right(alloc, make_out(alloc, &parts.1)?)
@@ -129,8 +127,7 @@ pub(crate) fn append(text: &mut String, state: &State) -> Result<(), AllocError>
     ensures kept { Extends text.old text.new }
 {
     match source(state) {
-        State::Both { parts } => append_both(text, parts),
-        State::Either { parts } => append_both(text, parts),
+        State::Both { parts } | State::Either { parts } => append_both(text, parts),
         State::AndThen { done, parts } => {
             if *done {
                 text.push_str("Right(")?;

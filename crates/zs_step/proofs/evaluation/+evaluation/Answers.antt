@@ -59,8 +59,8 @@ in_turn-returns-in_ok-make_right-in-Some t c =
           ∙ search rules;
     }
 
-pub collecting-returns : goal.collecting-returns
-collecting-returns t c =
+pub collect_all-returns : goal.collect_all-returns
+collect_all-returns t c =
     record {
       value =
           collected-answer (answer_of (schedule_of c.args.part.now)) (history_of c.args.history.now) _ _ _ _ _

@@ -27,8 +27,8 @@ decreases-in_turn l = 3 * (weight (schedule_of l.first.now) + weight (schedule_o
 abbrev pub decreases-while_output : goal.decreases-while_output
 decreases-while_output l = 3 * weight (schedule_of l.part.now) + 2
 
-abbrev pub decreases-collecting : goal.decreases-collecting
-decreases-collecting l = 3 * weight (schedule_of l.part.now) + 2
+abbrev pub decreases-collect_all : goal.decreases-collect_all
+decreases-collect_all l = 3 * weight (schedule_of l.part.now) + 2
 
 abbrev pub decreases-since_last_reset : goal.decreases-since_last_reset
 decreases-since_last_reset l = 3 * weight (schedule_of l.part.now) + 2
