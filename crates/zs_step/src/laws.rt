@@ -74,11 +74,10 @@ pub fn a_fixed_run_is_at_the_next_boundary()
     // At the first step, at a later step that is in time, and at a late one.
     ensures first { (n x : ℕ) (p : ℕ × ℕ) → 1 ≤ n → IsBoundaryAfter n (p ∷ []) x
         → ContinuesAt (leaf (fixed n)) (p ∷ []) (saturated x) }
-    ensures value { (n x : ℕ) (p q : ℕ × ℕ) (h : History) → 1 ≤ n → IsInTime n (p ∷ (q ∷ h))
-        → IsBoundaryAfter n (p ∷ (q ∷ h)) x
-        → ContinuesAt (leaf (fixed n)) (p ∷ (q ∷ h)) (saturated x) }
+    ensures value { (n x : ℕ) (p q : ℕ × ℕ) (h : History) → 1 ≤ n → IsInTime n (p ∷ q ∷ h)
+        → IsBoundaryAfter n (p ∷ q ∷ h) x → ContinuesAt (leaf (fixed n)) (p ∷ q ∷ h) (saturated x) }
     ensures behind { (n : ℕ) (p q : ℕ × ℕ) (h : History) → next_run n (q ∷ h) + n < p.0
-        → ContinuesAt (leaf (fixed n)) (p ∷ (q ∷ h)) p.0 }
+        → ContinuesAt (leaf (fixed n)) (p ∷ q ∷ h) p.0 }
 {}
 
 /// A leaf stores the number of steps before the last one. With one more, which saturates, that is
