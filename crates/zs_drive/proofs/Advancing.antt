@@ -18,7 +18,7 @@ use Rattle.zs_step.specs.Answer.{Answer, answer_of}
 use Rattle.zs_step.specs.Compiled.{compiled_schedule}
 use Rattle.zs_drive.specs.Timeline.{Timeline, timeline_of, poll_moments, number_of, beat_after, ended_attempt}
 use Rattle.zs_drive.specs.Told.{step_continued}
-use Rattle.zs_drive.specs.Recorded.{AllContinued, IsStepped}
+use Rattle.zs_drive.specs.Recorded.{AllContinued, IsStepped, runs}
 use Rattle.zs_drive.specs.DriverRules.{history_after}
 use Rattle.zs_drive.specs.Progress.{IsProgress, IsPhase, IsSteppedIn, HasState, job_in, moments_in, attempts_of, timeline_in, due_of, ending_of}
 use Rattle.zs_drive.specs.Turns.{Advances, IsWaitingTo, HasRunTo, WasAsked}
@@ -27,7 +27,7 @@ use Rattle.zs_drive.proofs.Extending.{extended}
 use Rattle.zs_drive.proofs.Records.{advance, history_after-running}
 use Rattle.zs_drive.proofs.Logging.{log-moments, log-count}
 use Rattle.zs_drive.proofs.Timing.{length-history_after, history_after-ended, AllContinued-append}
-use Rattle.zs_drive.proofs.Steps.{runs, begins}
+use Rattle.zs_drive.proofs.Steps.{begins}
 
 -- one more poll can be counted
 pub polls-fit : (p : Progress) → IsProgress p → Fits w64 (p.polls + 1)

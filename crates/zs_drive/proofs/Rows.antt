@@ -16,6 +16,7 @@ use Rattle.zs_drive.specs.declared.record.Ending.{Ending}
 use Rattle.zs_drive.specs.declared.record.Ending.TheVariants.{Succeeded, Failed, Finished}
 use Rattle.zs_drive.specs.Clocks.{first_tick_from}
 use Rattle.zs_drive.specs.Values.{JobRecord, AttemptedValue}
+use Rattle.zs_drive.specs.Recorded.{runs}
 use Rattle.zs_drive.specs.Timeline.{Timeline, timeline_of, from, from_begin, from_wait, by_outcome, by_answer, poll_moments}
 use Rattle.zs_drive.specs.DriverLaws.{polls_on}
 
@@ -48,10 +49,6 @@ last s e outcome = record { begun = s; ended = Some (record { at = e; outcome = 
 -- an attempt with the schedule's result
 abbrev asked : ℕ → ℕ → Outcome → Output → Decision → AttemptedValue
 asked s e outcome output decision = record { begun = s; ended = Some (record { at = e; outcome = outcome; step = Some (answer output decision) }) }
-
--- an attempt that is running
-abbrev runs : ℕ → AttemptedValue
-runs s = record { begun = s; ended = None }
 
 -- a job that continues, and one that has ended
 abbrev going : List AttemptedValue → ℕ → Timeline

@@ -11,15 +11,11 @@ use Rattle.zs_step.specs.declared.decision.Decision.TheVariants.{Stop, Next}
 use Rattle.zs_drive.specs.declared.record.Ending.{Ending}
 use Rattle.zs_drive.specs.Values.{JobRecord, AttemptedValue}
 use Rattle.zs_drive.specs.Timeline.{Timeline, before, number_of, ended_attempt, ending_by_outcome, ending_by_schedule, beat_after, by_answer, by_outcome}
-use Rattle.zs_drive.specs.Recorded.{AllContinued}
+use Rattle.zs_drive.specs.Recorded.{AllContinued, runs}
 use Rattle.zs_drive.specs.DriverRules.{history_after}
 use Rattle.zs_drive.proofs.Extending.{resume, extend, extend_none, extend_last, extended, resume-soon, resume-late, close-soon}
 use Rattle.zs_drive.proofs.Timing.{length-history_after}
 use Rattle.zs_drive.proofs.Records.{after, extend-continued}
-
--- an attempt that began at s and is running
-abbrev pub runs : ℕ → AttemptedValue
-runs s = record { begun = s; ended = None }
 
 module _ (job : JobRecord) (seen : ℕ) where
   -- the due attempt begins

@@ -14,6 +14,10 @@ unfoldable pub AllContinued : List AttemptedValue → Type 0
 AllContinued [] = Unit {0}
 AllContinued (attempt ∷ attempts) = (continued attempt ≡ true) × AllContinued attempts
 
+-- an attempt that began at s and is running
+abbrev pub runs : ℕ → AttemptedValue
+runs s = record { begun = s; ended = None }
+
 -- the timeline is that of the job on the clock of its poll moments; `polls` is their number
 pub record IsOnTimeline (job : JobRecord) (timeline : Timeline) (polls : ℕ) : Type 0 where
   pub same : timeline ≡ timeline_of job (poll_moments timeline.attempts)
@@ -28,7 +32,7 @@ pub record IsStepped (attempts : List AttemptedValue) (schedule : Compiled) (see
 
 -- the last attempt runs: it began at s, after others after which the schedule continued
 pub record IsRunning (job : JobRecord) (attempts : List AttemptedValue) (attempt : AttemptValue) (seen : ℕ) (others : List AttemptedValue) (s : ℕ) : Type 0 where
-  pub last : attempts ≡ others ++ record { begun = s; ended = None } ∷ []
+  pub last : attempts ≡ others ++ runs s ∷ []
   pub continued : AllContinued others
   pub outcome : attempt.outcome ≡ (beat_after job (history_after others)).outcome
   pub saw : attempt.seen ≤ seen

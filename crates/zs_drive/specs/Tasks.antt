@@ -1,5 +1,5 @@
 -- What contracts know about a task, and what a poll does to it.
-use Rattle.std.specs.Prelude.{◌≡◌, ℕ, ◌≤◌, Bool, false, List, [], ◌∷◌, ◌++◌, Option, Some, None, Result, Ok, Err, IsSomeAnd, nat_lt, if◌then◌else◌}
+use Rattle.std.specs.Prelude.{◌≡◌, ℕ, ◌≤◌, ◌<◌, ◌⊎◌, Bool, false, true, List, [], ◌∷◌, ◌++◌, Option, Some, None, Result, Ok, Err, IsSomeAnd, nat_lt, if◌then◌else◌}
 use Rattle.futures.specs.declared.task.Poll.{Poll}
 use Rattle.futures.specs.declared.task.Poll.TheVariants.{Ready, Pending}
 use Rattle.zs_effect.specs.declared.script.Outcome.{Outcome}
@@ -34,6 +34,10 @@ current_timeline task = timeline_at task.job task.moments
 abbrev pub IsDue : TaskValue → Type 0
 IsDue task = IsSomeAnd (current_timeline task).due (λ due. due ≤ task.seen)
 
+-- its due moment is after the moment seen
+abbrev pub IsNotYetDue : TaskValue → Type 0
+IsNotYetDue task = IsSomeAnd (current_timeline task).due (λ due. task.seen < due)
+
 -- a task after a poll, given its due moment
 abbrev pub polled_when : TaskValue → Option ℕ → TaskValue
 polled_when task None = task
@@ -53,6 +57,14 @@ pub record EndsByOutcome (task : TaskValue) (ending : Ending) : Type 0 where
 abbrev pub reply_of : Option Ending → Poll (Result Ending DriveFault)
 reply_of None = Pending
 reply_of (Some ending) = Ready (Ok ending)
+
+-- an unbroken task was polled, with this result
+abbrev pub WasPolled : TaskValue → TaskValue → Poll (Result Ending DriveFault) → Type 0
+WasPolled old new result = (old.broken ≡ false) × (new ≡ polled old) × (result ≡ reply_of (current_timeline new).ending)
+
+-- A task that was broken or due is now broken, and otherwise unchanged.
+abbrev pub Breaks : TaskValue → TaskValue → Type 0
+Breaks old new = ((old.broken ≡ true) ⊎ IsDue old) × (new ≡ record old { broken = true })
 
 -- P if the poll ran out of memory, else Q
 abbrev pub MatchMemory : Poll (Result Ending DriveFault) → Type 0 → Type 0 → Type 0

@@ -1,14 +1,10 @@
 //! What a task stores of its attempts.
-ghost use Rattle.std.specs.Prelude.{◌≡◌, ℕ, ◌+◌, ◌≤◌, ◌<◌, ◌^◌, List, [], ◌∷◌, ◌++◌, length, map, string_bytes, false, Some, None, OnOk, OnErr, vec_len};
-ghost use Rattle.std.specs.Vec.{vec_capacity};
-ghost use Rattle.zs_step.specs.Answer.{answer};
-ghost use Rattle.zs_step.specs.Compiled.{compiled_output};
-ghost use Rattle.zs_drive.specs.Values.{AttemptedValue, attempted_of, ended_of, step_of};
-ghost use Rattle.zs_drive.specs.Timeline.{ended_attempt};
+ghost use Rattle.std.specs.Prelude.{◌≡◌, ◌+◌, ◌<◌, ◌^◌, [], ◌∷◌, length, string_bytes, false, OnOk, OnErr};
+ghost use Rattle.zs_drive.specs.Values.{step_of};
 ghost use Rattle.zs_drive.specs.Told.{step_continued};
-ghost use Rattle.zs_drive.specs.Recorded.{AllContinued};
-ghost use Rattle.zs_drive.specs.Turns.{EndsLast};
-ghost use Rattle.zs_drive.specs.Log.{IsFull, IsLog, IsSameLog, Tells, keeping_of, lines_in, log_count, records_in, told_in};
+ghost use Rattle.zs_drive.specs.Recorded.{runs};
+ghost use Rattle.zs_drive.specs.Turns.{BeginsNext, EndsLast, HasEnd, TellsLast, goes_on};
+ghost use Rattle.zs_drive.specs.Log.{IsFull, IsLog, IsSameLog, keeping_of, lines_in, log_count, records_in, told_in};
 
 use crate::lines::push_stepped;
 use crate::record::{Attempted, Ended, Keeping};
@@ -63,10 +59,7 @@ fn make_first_room(lines: &mut String, moments: &mut Vec<u64>, count: u64) -> Re
 // Sets the end of the last record.
 fn set_end(records: &mut Vec<Attempted>, ended: Ended)
     requires last { 0 < length records.old.items }
-    ensures ended { (others : List AttemptedValue) (s : ℕ)
-        → map attempted_of records.old.items ≡ others ++ record { begun = s; ended = None } ∷ []
-        → map attempted_of records.new.items
-        ≡ others ++ record { begun = s; ended = ended_of (Some ended) } ∷ [] }
+    ensures ended { HasEnd records.old.items records.new.items ended }
     ensures full { IsFull (Log.Recorded records.new) → IsFull (Log.Recorded records.old) }
 {
     let index = records.len() - 1;
@@ -85,10 +78,7 @@ impl Told {
     ) -> Result<(), AllocError>
         requires few { self.old.count + 1 < 2 ^ 64 }
         ensures ok { OnOk result
-            ((s : ℕ) → self.old.last ≡ Some (record { begun = s; ended = None })
-            → Tells self.old self.new
-            (ended_attempt s at outcome
-            (Some (answer (compiled_output schedule.now) (Decision.Next next))))) }
+            (TellsLast self.old self.new at outcome (goes_on schedule.now next)) }
         ensures same { OnErr result (IsSameLog (Log.Written self.old) (Log.Written self.new)) }
     {
         let Some(Attempted { begun, .. }) = self.last else {
@@ -98,16 +88,7 @@ impl Told {
         let (len, moments) = (self.lines.len(), self.moments.len());
         self.moments.extend_from_slice(&[begun, at])?;
         let number = self.count + 1;
-        let decision = Decision::Next(next);
-        let told = push_stepped(
-            &mut self.lines,
-            number,
-            begun,
-            at,
-            outcome,
-            decision,
-            schedule,
-        );
+        let told = push_stepped(&mut self.lines, number, begun, at, outcome, next, schedule);
         if told.is_err() {
             self.lines.truncate(len);
             self.moments.truncate(moments);
@@ -191,9 +172,7 @@ impl Log {
 
     /// Begins another attempt. That fails only if a full list of records can't grow.
     pub(crate) fn begin(&mut self, begun: u64) -> Result<(), AllocError>
-        ensures begun { OnOk result ((attempts : List AttemptedValue) → AllContinued attempts
-            → IsLog self.old attempts
-            → IsLog self.new (attempts ++ record { begun = begun; ended = None } ∷ [])) }
+        ensures begun { OnOk result (BeginsNext self.old self.new begun) }
         ensures same { OnErr result (IsSameLog self.old self.new) }
         ensures full { OnErr result (IsFull self.old) }
         ensures keeps { keeping_of self.new ≡ keeping_of self.old }
@@ -211,10 +190,7 @@ impl Log {
     pub(crate) fn end(&mut self, ended: Ended)
         requires last { 0 < log_count self.old }
         requires last_one { step_continued (step_of ended.step) ≡ false }
-        ensures ended { (others : List AttemptedValue) (s : ℕ) → AllContinued others
-            → IsLog self.old (others ++ record { begun = s; ended = None } ∷ [])
-            → IsLog self.new
-            (others ++ record { begun = s; ended = ended_of (Some ended) } ∷ []) }
+        ensures ended { EndsLast self.old self.new ended.at ended.outcome (step_of ended.step) [] }
         ensures keeps { keeping_of self.new ≡ keeping_of self.old }
     {
         match self {
@@ -238,8 +214,7 @@ impl Log {
         requires last { 0 < log_count self.old }
         requires few { log_count self.old + 1 < 2 ^ 64 }
         ensures passed { OnOk result
-            (EndsLast self.old self.new at outcome
-            (Some (answer (compiled_output schedule.now) (Decision.Next next))) []) }
+            (EndsLast self.old self.new at outcome (goes_on schedule.now next) []) }
         ensures same { OnErr result (IsSameLog self.old self.new) }
         ensures full { IsFull self.new → IsFull self.old }
         ensures keeps { keeping_of self.new ≡ keeping_of self.old }
@@ -266,9 +241,7 @@ impl Log {
         requires last { 0 < log_count self.old }
         requires few { log_count self.old + 1 < 2 ^ 64 }
         ensures restarted { OnOk result
-            (EndsLast self.old self.new at outcome
-            (Some (answer (compiled_output schedule.now) (Decision.Next next)))
-            (record { begun = at; ended = None } ∷ [])) }
+            (EndsLast self.old self.new at outcome (goes_on schedule.now next) (runs at ∷ [])) }
         ensures same { OnErr result (IsSameLog self.old self.new) }
         ensures keeps { keeping_of self.new ≡ keeping_of self.old }
     {

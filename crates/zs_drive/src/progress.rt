@@ -4,15 +4,13 @@ ghost use Rattle.futures.specs.Poll.{IfReady, OnPending};
 ghost use Rattle.futures.specs.Task.{IsArmed, Keeps};
 ghost use Rattle.zs_effect.specs.Scripts.{IsScript, entry_at};
 ghost use Rattle.zs_drive.specs.Timeline.{ending_by_outcome, ending_by_schedule, number_of};
-ghost use Rattle.zs_step.specs.History.{History};
-ghost use Rattle.zs_step.specs.Answer.{answer, answer_of};
-ghost use Rattle.zs_step.specs.Compiled.{StandsFor, compiled_output, compiled_schedule, compiled_term, last_seen};
+ghost use Rattle.zs_step.specs.Compiled.{compiled_term, last_seen};
 ghost use Rattle.zs_drive.specs.Log.{IsFull, keeping_of, log_count};
 ghost use Rattle.zs_drive.specs.Values.{step_of};
-ghost use Rattle.zs_drive.specs.DriverRules.{history_after};
+ghost use Rattle.zs_drive.specs.Recorded.{runs};
 ghost use Rattle.zs_drive.specs.Told.{step_continued};
-ghost use Rattle.zs_drive.specs.Progress.{IsProgress, HasState, attempts_of, due_of, ending_of};
-ghost use Rattle.zs_drive.specs.Turns.{Advances, EndsLast, started, turned, IsWaitingTo, HasRunTo, WasAsked, IsOver, IsEarly, IsDuePhase, StandsStill, IsSame, TakesMemory};
+ghost use Rattle.zs_drive.specs.Progress.{IsProgress, HasState, due_of, ending_of};
+ghost use Rattle.zs_drive.specs.Turns.{Advances, HasDecided, HasEnded, HasRunTo, IsDecided, IsDuePhase, IsEarly, IsOver, IsSame, IsTurn, IsWaitingTo, StandsAfter, StandsStill, TakesMemory, WasAsked, goes_on, started, turned};
 
 use crate::fault::DriveFault;
 use crate::job::Mode;
@@ -147,13 +145,9 @@ impl Progress {
         ensures rest { self.new ≡ record self.old { schedule = self.new.schedule } }
         ensures term { compiled_term self.new.schedule ≡ compiled_term self.old.schedule }
         ensures stands { OnOk result
-            ((h : History) → StandsFor self.old.schedule h
-            → StandsFor self.new.schedule ((self.old.seen, number_of outcome) ∷ h)) }
-        ensures answered { IfOk result (λ decision.
-            (h : History) → StandsFor self.old.schedule h
-            → answer (compiled_output self.new.schedule) decision
-            ≡ answer_of (compiled_schedule self.old.schedule)
-            ((self.old.seen, number_of outcome) ∷ h)) }
+            (StandsAfter self.old.schedule self.new.schedule self.old.seen outcome) }
+        ensures answered { IfOk result
+            (HasDecided self.old.schedule self.new.schedule self.old.seen outcome) }
     {
         let (decision, _) = self.schedule.advance(self.seen, number(outcome))?;
         Ok(decision)
@@ -187,9 +181,7 @@ impl Progress {
         requires state { WasAsked self.old outcome }
         requires running { HasRunTo self.old.seen outcome self.old.phase }
         requires goes_on { ending_by_outcome self.old.mode outcome ≡ None }
-        requires answer { answer (compiled_output self.old.schedule) decision
-            ≡ answer_of (compiled_schedule self.old.schedule)
-            ((self.old.seen, number_of outcome) ∷ history_after (attempts_of self.old)) }
+        requires answer { IsDecided self.old outcome decision }
         requires script { IsScript self.old.script }
         ensures ok { OnOk result (Advances self.old self.new) }
         ensures err { OnErr result (StandsStill self.old self.new) }
@@ -217,7 +209,7 @@ impl Progress {
         requires last { step_continued (step_of step) ≡ false }
         ensures rest { self.new ≡ turned self.old self.new.log (Phase.Over ending) }
         ensures keeps { keeping_of self.new.log ≡ keeping_of self.old.log }
-        ensures ended { EndsLast self.old.log self.new.log self.old.seen outcome (step_of step) [] }
+        ensures ended { HasEnded self.old self.new outcome (step_of step) [] }
     {
         let at = self.seen;
         self.log.end(Ended { at, outcome, step });
@@ -230,12 +222,10 @@ impl Progress {
     fn wait(&mut self, outcome: Outcome, due: u64) -> Result<(), DriveFault>
         requires progress { IsProgress self.old }
         requires running { HasRunTo self.old.seen outcome self.old.phase }
-        ensures rest { OnOk result
-            (self.new ≡ turned self.old self.new.log (Phase.Waiting due)) }
+        ensures rest { OnOk result (self.new ≡ turned self.old self.new.log (Phase.Waiting due)) }
         ensures keeps { keeping_of self.new.log ≡ keeping_of self.old.log }
         ensures ended { OnOk result
-            (EndsLast self.old.log self.new.log self.old.seen outcome
-            (Some (answer (compiled_output self.old.schedule) (Decision.Next due))) []) }
+            (HasEnded self.old self.new outcome (goes_on self.old.schedule due) []) }
         ensures err { OnErr result (StandsStill self.old self.new) }
     {
         self.log.pass(self.seen, outcome, due, &self.schedule)?;
@@ -250,13 +240,10 @@ impl Progress {
         requires progress { IsProgress self.old }
         requires running { HasRunTo self.old.seen outcome self.old.phase }
         ensures rest { OnOk result
-            (self.new
-            ≡ turned self.old self.new.log (Phase.Running (started next self.old.seen))) }
+            (self.new ≡ turned self.old self.new.log (Phase.Running (started next self.old.seen))) }
         ensures keeps { keeping_of self.new.log ≡ keeping_of self.old.log }
-        ensures ended { OnOk result
-            (EndsLast self.old.log self.new.log self.old.seen outcome
-            (Some (answer (compiled_output self.old.schedule) (Decision.Next due)))
-            (record { begun = self.old.seen; ended = None } ∷ [])) }
+        ensures ended { OnOk result (HasEnded self.old self.new outcome
+            (goes_on self.old.schedule due) (runs self.old.seen ∷ [])) }
         ensures err { OnErr result (StandsStill self.old self.new) }
     {
         let at = self.seen;
@@ -276,9 +263,7 @@ impl Progress {
         ensures early { IsEarly self.old.seen self.old.phase
             → (result ≡ Poll.Pending) × IsSame self.old self.new }
         ensures due { IsDuePhase self.old.seen self.old.phase
-            → IfReady result (λ done.
-            OnOk done (Advances self.old self.new)
-            × OnErr done (StandsStill self.old self.new)) }
+            → IfReady result (IsTurn self.old self.new) }
         ensures answers { IsDuePhase self.old.seen self.old.phase → OnPending result ⊥ }
         ensures refused { IfReady result (λ done.
             OnErr done (TakesMemory self.old.mode self.old.phase)) }

@@ -1,5 +1,5 @@
 //! A job as a future that its caller polls at moments that the caller chooses.
-ghost use Rattle.std.specs.Prelude.{◌≡◌, ◌+◌, ◌≤◌, ◌<◌, map, length, false, true, Ok, IfOk, IfErr, IfSome, IsSomeAnd, ◌⊎◌, ⊤};
+ghost use Rattle.std.specs.Prelude.{◌≡◌, ◌+◌, ◌≤◌, ◌<◌, map, length, false, true, Ok, IfOk, IfErr, IfSome, ⊤};
 ghost use Rattle.futures.specs.Poll.{OnPending};
 ghost use Rattle.futures.specs.Task.{IsArmed, Keeps};
 ghost use Rattle.zs_effect.specs.Scripts.{IsScript};
@@ -8,7 +8,7 @@ ghost use Rattle.zs_drive.specs.Lines.{attempts_lines};
 ghost use Rattle.zs_drive.specs.Told.{told_of, recorded_of};
 ghost use Rattle.zs_drive.specs.Values.{job_record, attempted_of};
 ghost use Rattle.zs_drive.specs.Timeline.{poll_moments};
-ghost use Rattle.zs_drive.specs.Tasks.{current_timeline, new_task, polled, reply_of, MatchMemory, IsDue, EndsByOutcome};
+ghost use Rattle.zs_drive.specs.Tasks.{Breaks, EndsByOutcome, IsNotYetDue, MatchMemory, WasPolled, current_timeline, new_task};
 
 use crate::fault::DriveFault;
 use crate::job::{Job, Mode};
@@ -53,7 +53,8 @@ impl Task {
     /// Makes the task of a job, which has seen moment 0 and stores the record of each attempt. If
     /// memory runs out, it returns `Memory`, and the job is dropped.
     pub fn new(alloc: Global, number: u64, job: Job) -> Result<Task, DriveFault>
-        ensures made { IfOk result (λ task. task ≡ new_task number (job_record job) Keeping.Records) }
+        ensures made { IfOk result (λ task.
+            task ≡ new_task number (job_record job) Keeping.Records) }
         ensures script { IfOk result (λ task. IsScript task.job.script) }
         ensures memory { IfErr result (λ fault. fault ≡ DriveFault.Memory) }
     {
@@ -197,21 +198,15 @@ impl Future for Task {
     /// At or past the moment waited for: ends the attempt, steps the schedule, and begins the next
     /// attempt if that is due too. If memory runs out, it returns `Memory`, and the task is broken.
     fn poll(&mut self, cx: &mut Context<'_>) -> Poll<Result<Ending, DriveFault>>
-        ensures answered { MatchMemory result ⊤
-            ((self.old.broken ≡ false) × (self.new ≡ polled self.old)
-            × (result ≡ reply_of (current_timeline self.new).ending)) }
-        ensures memory { MatchMemory result
-            (((self.old.broken ≡ true) ⊎ IsDue self.old)
-            × (self.new ≡ record self.old { broken = true })) ⊤ }
-        ensures early { self.old.broken ≡ false
-            → IsSomeAnd (current_timeline self.old).due (λ due. self.old.seen < due)
+        ensures answered { MatchMemory result ⊤ (WasPolled self.old self.new result) }
+        ensures memory { MatchMemory result (Breaks self.old self.new) ⊤ }
+        ensures early { self.old.broken ≡ false → IsNotYetDue self.old
             → (result ≡ Poll.Pending) × (self.new ≡ self.old) }
         ensures over { IfSome (current_timeline self.old).ending (λ ending.
             (result ≡ Poll.Ready (Ok ending)) × (self.new ≡ self.old)) }
         // A success of a retry and a failure of a repeat take no memory, so they are never lost.
         ensures outcome { self.old.broken ≡ false → (ending : Ending)
-            → EndsByOutcome self.old ending
-            → result ≡ Poll.Ready (Ok ending) }
+            → EndsByOutcome self.old ending → result ≡ Poll.Ready (Ok ending) }
         ensures same { (self.new.number ≡ self.old.number) × (self.new.job ≡ self.old.job)
             × (self.new.seen ≡ self.old.seen) }
         ensures keeps { self.new.keeps ≡ self.old.keeps }

@@ -6,7 +6,7 @@ use Rattle.zs_step.specs.Compiled.{compiled_output}
 use Rattle.zs_drive.specs.Values.{AttemptedValue}
 use Rattle.zs_drive.specs.Timeline.{ended_attempt}
 use Rattle.zs_drive.specs.Log.{IsLog}
-use Rattle.zs_drive.proofs.Steps.{runs}
+use Rattle.zs_drive.specs.Recorded.{runs}
 use Rattle.zs_drive.proofs.Timing.{AllContinued-append}
 use Rattle.zs_drive.proofs.Logging.{IsLog-same, on_ok}
 use Rattle.zs_drive.proofs.log.Log.restart.Goals as goal
