@@ -13,6 +13,7 @@ pub mod Report
 pub mod ReportView
 pub mod PlanReport
 pub mod Told
+pub mod ReportLaws
 pub mod Status
 pub mod Marked
 pub mod Headline

@@ -1,11 +1,12 @@
 //! Reads the entries of a script in a plan.
-ghost use Rattle.std.specs.Prelude.{◌≡◌, map, option_map, Some};
+ghost use Rattle.std.specs.Prelude.{◌≡◌, map, Some};
 ghost use Rattle.std.specs.List.{list_all};
 ghost use Rattle.serde_json.specs.View.{view};
 ghost use Rattle.zs_run.specs.declared.plan_fault.PlanFault.TheVariants as faults;
 ghost use Rattle.zs_run.specs.Refusals.{Gives, demand_some};
 ghost use Rattle.zs_run.specs.Tree.{all_of, has_only_keys};
 ghost use Rattle.zs_run.specs.Shapes.{beat_of, entry_keys, outcome_of};
+ghost use Rattle.zs_run.specs.ShapeViews.{found_view};
 
 use crate::plan_fault::PlanFault;
 use crate::tree::{has_only_keys, whole};
@@ -15,9 +16,7 @@ use zs_effect::{Beat, Outcome};
 
 // Returns the outcome of an attempt, by the values at `ok` and `err`: exactly one of them.
 fn outcome_of(ok: Option<&Value>, err: Option<&Value>) -> Option<Outcome>
-    ensures value { result
-        ≡ outcome_of (option_map (λ v. view v.now) ok.entry)
-        (option_map (λ v. view v.now) err.entry) }
+    ensures value { result ≡ outcome_of (found_view ok.entry) (found_view err.entry) }
 {
     match (ok, err) {
         (Some(ok), None) => Some(Outcome::Good(ok.as_u64()?)),

@@ -1,11 +1,11 @@
 //! The parts of a population's input: a document without jobs, and the bytes of one job.
-ghost use Rattle.std.specs.Prelude.{◌≡◌, ◌++◌, ◌∷◌, [], ℕ, List, map, IfOk, None, Ok};
+ghost use Rattle.std.specs.Prelude.{◌≡◌, ℕ, List, map, IfOk, None, Ok};
 ghost use Rattle.serde_json.specs.View.{view};
 ghost use Rattle.zs_drive.specs.Values.{job_record};
 ghost use Rattle.zs_run.specs.declared.plan_fault.PlanFault.TheVariants as faults;
 ghost use Rattle.zs_run.specs.Refusals.{Gives};
 ghost use Rattle.zs_run.specs.Head.{head_of, head_of_tree, job_of_bytes};
-ghost use Rattle.zs_run.specs.HeadView.{head_record};
+ghost use Rattle.zs_run.specs.HeadView.{head_record, plan_with};
 ghost use Rattle.zs_run.specs.Names.{KnowsNames};
 
 use crate::job_reading::job_of;
@@ -33,12 +33,8 @@ impl Head {
 
     /// The plan of some jobs that run in this way.
     pub fn plan(&self, alloc: Global, jobs: Vec<Job>) -> Result<Plan, AllocError>
-        ensures plan { IfOk result (λ plan. plan_record plan ≡ record {
-          clock = (head_record self.now).clock;
-          workers = (head_record self.now).workers;
-          grain = (head_record self.now).grain;
-          jobs = map job_record jobs.items;
-        }) }
+        ensures plan { IfOk result (λ plan.
+            plan_record plan ≡ plan_with (head_record self.now) (map job_record jobs.items)) }
     {
         let clock = self.clock.copy(alloc)?;
         let cut = self.cut;

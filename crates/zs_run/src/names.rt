@@ -1,8 +1,8 @@
 //! The names of jobs: which texts are valid, and which were used before.
-ghost use Rattle.std.specs.Prelude.{◌≡◌, ◌++◌, ◌∷◌, [], ℕ, List, OnOk, string_bytes};
+ghost use Rattle.std.specs.Prelude.{◌≡◌, OnOk};
 ghost use Rattle.std.specs.List.{list_all};
 ghost use Rattle.zs_run.specs.Jobs.{is_name, is_name_byte};
-ghost use Rattle.zs_run.specs.Names.{KnowsNames};
+ghost use Rattle.zs_run.specs.Names.{LearnsName};
 
 use std::alloc::{AllocError, Global};
 use std::collections::BTreeSet;
@@ -41,9 +41,7 @@ pub(crate) fn add_name(
     names: &mut BTreeSet<String>,
     name: &str,
 ) -> Result<(), AllocError>
-    ensures known { OnOk result
-        ((earlier : List (List ℕ)) → KnowsNames names.old earlier
-        → KnowsNames names.new (earlier ++ name.now ∷ [])) }
+    ensures known { OnOk result (LearnsName names.old names.new name.now) }
 {
     let copy = String::from_str(alloc, name)?;
     match names.insert(copy) {

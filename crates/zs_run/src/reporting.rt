@@ -1,13 +1,13 @@
 //! Reports.
-ghost use Rattle.std.specs.Prelude.{◌≡◌, ◌++◌, ◌+◌, ◌≤◌, ◌<◌, ◌^◌, ℕ, length, codes, [], OnOk, IfOk, IsSome, None, Some, map, option_copied, string_bytes};
-ghost use Rattle.std.specs.Fmt.{decimal};
+ghost use Rattle.std.specs.Prelude.{◌≡◌, ◌+◌, ◌<◌, ◌^◌, length, [], OnOk, IfOk, IsSome, None, Some, map, option_copied, string_bytes};
 ghost use Rattle.std.specs.List.{flat_map};
+ghost use Rattle.zs_term.specs.OutputText.{Adds};
 ghost use Rattle.zs_drive.specs.Values.{attempted_of, ended_of, step_of};
 ghost use Rattle.zs_drive.specs.Lines.{attempts_lines};
 ghost use Rattle.zs_drive.specs.Tasks.{current_timeline};
 ghost use Rattle.zs_run.specs.Report.{end_line, ending_text, head_line, job_lines, last_ended, last_moment, last_output, mode_text, report_text, step_output};
 ghost use Rattle.zs_run.specs.PlanReport.{with_total};
-ghost use Rattle.zs_run.specs.ReportView.{task_report};
+ghost use Rattle.zs_run.specs.ReportView.{task_end, task_report};
 
 use std::alloc::{AllocError, Global};
 use zs_drive::{Attempted, Ended, Ending, Mode, Task, append_attempt};
@@ -19,8 +19,7 @@ use zs_term::{Out, append_out};
 fn push_attempts(text: &mut String, from: u64, attempts: &[Attempted]) -> Result<(), AllocError>
     requires few { from + length attempts.now < 2 ^ 64 }
     ensures text { OnOk result
-        (string_bytes text.new
-        ≡ string_bytes text.old ++ attempts_lines from (map attempted_of attempts.now)) }
+        (Adds text.old text.new (attempts_lines from (map attempted_of attempts.now))) }
 {
     let mut number = from;
     for attempt in attempts {
@@ -33,8 +32,7 @@ fn push_attempts(text: &mut String, from: u64, attempts: &[Attempted]) -> Result
 // Adds the lines of the attempts of a task.
 fn push_task(text: &mut String, task: &Task) -> Result<(), AllocError>
     ensures text { OnOk result
-        (string_bytes text.new
-        ≡ string_bytes text.old ++ attempts_lines 1 (current_timeline task.now).attempts) }
+        (Adds text.old text.new (attempts_lines 1 (current_timeline task.now).attempts)) }
 {
     text.push_str(task.lines())?;
     push_attempts(text, task.told_count() + 1, task.records())
@@ -65,8 +63,7 @@ fn last_moment(task: &Task) -> u64
 
 // Adds the output of the step after an attempt, if the schedule was stepped.
 fn push_output(text: &mut String, step: &Option<(Out, Decision)>) -> Result<(), AllocError>
-    ensures text { OnOk result
-        (string_bytes text.new ≡ string_bytes text.old ++ step_output (step_of step.now)) }
+    ensures text { OnOk result (Adds text.old text.new (step_output (step_of step.now))) }
 {
     match step {
         None => Ok(()),
@@ -78,8 +75,7 @@ fn push_output(text: &mut String, step: &Option<(Out, Decision)>) -> Result<(), 
 fn push_last_output(text: &mut String, task: &Task) -> Result<(), AllocError>
     requires over { IsSome (current_timeline task.now).ending }
     ensures text { OnOk result
-        (string_bytes text.new
-        ≡ string_bytes text.old ++ last_output (current_timeline task.now).attempts) }
+        (Adds text.old text.new (last_output (current_timeline task.now).attempts)) }
 {
     match last_end(task) {
         Some(ended) => push_output(text, &ended.step),
@@ -91,8 +87,7 @@ fn push_last_output(text: &mut String, task: &Task) -> Result<(), AllocError>
 fn push_ending(text: &mut String, task: &Task, ending: Ending) -> Result<(), AllocError>
     requires over { IsSome (current_timeline task.now).ending }
     ensures text { OnOk result
-        (string_bytes text.new
-        ≡ string_bytes text.old ++ ending_text (current_timeline task.now).attempts ending) }
+        (Adds text.old text.new (ending_text (current_timeline task.now).attempts ending)) }
 {
     match ending {
         Ending::Succeeded(value) => write!(text, "succeeded {value}"),
@@ -106,19 +101,14 @@ fn push_ending(text: &mut String, task: &Task, ending: Ending) -> Result<(), All
 
 // Adds the last line of a job that did not end.
 fn push_unfinished(text: &mut String, horizon: u64, polls: u64) -> Result<(), AllocError>
-    ensures text { OnOk result
-        (string_bytes text.new ≡ string_bytes text.old ++ end_line horizon [] None polls) }
+    ensures text { OnOk result (Adds text.old text.new (end_line horizon [] None polls)) }
 {
     writeln!(text, "end unfinished at {horizon} polls {polls}")
 }
 
 // Adds the last line of a job.
 fn push_end(text: &mut String, horizon: u64, task: &Task) -> Result<(), AllocError>
-    ensures text { OnOk result
-        (string_bytes text.new
-        ≡ string_bytes text.old
-        ++ end_line horizon (current_timeline task.now).attempts
-        (current_timeline task.now).ending (length task.now.moments)) }
+    ensures text { OnOk result (Adds text.old text.new (task_end horizon task.now)) }
 {
     let polls = task.polls();
     match task.ending() {
@@ -145,8 +135,7 @@ fn mode_name(mode: Mode) -> &'static str
 // Adds the first line of a job.
 fn push_head(text: &mut String, task: &Task) -> Result<(), AllocError>
     ensures text { OnOk result
-        (string_bytes text.new
-        ≡ string_bytes text.old ++ head_line task.now.job.name task.now.job.mode) }
+        (Adds text.old text.new (head_line task.now.job.name task.now.job.mode)) }
 {
     let name = task.name();
     let mode = mode_name(task.mode());
@@ -155,9 +144,7 @@ fn push_head(text: &mut String, task: &Task) -> Result<(), AllocError>
 
 // Adds the lines of a job.
 fn push_job(text: &mut String, horizon: u64, task: &Task) -> Result<(), AllocError>
-    ensures text { OnOk result
-        (string_bytes text.new
-        ≡ string_bytes text.old ++ job_lines horizon (task_report task.now)) }
+    ensures text { OnOk result (Adds text.old text.new (job_lines horizon (task_report task.now))) }
 {
     push_head(text, task)?;
     push_task(text, task)?;
@@ -167,8 +154,7 @@ fn push_job(text: &mut String, horizon: u64, task: &Task) -> Result<(), AllocErr
 // Adds the lines of jobs.
 fn push_jobs(text: &mut String, horizon: u64, tasks: &[Task]) -> Result<(), AllocError>
     ensures text { OnOk result
-        (string_bytes text.new
-        ≡ string_bytes text.old ++ flat_map (job_lines horizon) (map task_report tasks.now)) }
+        (Adds text.old text.new (flat_map (job_lines horizon) (map task_report tasks.now))) }
 {
     for task in tasks {
         push_job(text, horizon, task)?;
@@ -178,10 +164,8 @@ fn push_jobs(text: &mut String, horizon: u64, tasks: &[Task]) -> Result<(), Allo
 
 /// Appends the lines of all jobs of an `Answer`, in order: their report without its last line.
 pub fn append_jobs(text: &mut String, answer: &Answer) -> Result<(), AllocError>
-    ensures text { OnOk result
-        (string_bytes text.new
-        ≡ string_bytes text.old
-        ++ flat_map (job_lines answer.now.horizon) (map task_report answer.now.tasks.items)) }
+    ensures text { OnOk result (Adds text.old text.new
+        (flat_map (job_lines answer.now.horizon) (map task_report answer.now.tasks.items))) }
 {
     push_jobs(text, answer.horizon, answer.tasks.as_slice())
 }
@@ -195,10 +179,8 @@ pub fn append_total(text: &mut String, polls: u128) -> Result<(), AllocError>
 
 /// The report of what jobs did up to the horizon.
 pub fn report(alloc: Global, answer: &Answer) -> Result<String, AllocError>
-    ensures text { IfOk result (λ text.
-        string_bytes text
-        ≡ report_text answer.now.horizon (map task_report answer.now.tasks.items)
-        answer.now.polls) }
+    ensures text { IfOk result (λ text. string_bytes text ≡ report_text answer.now.horizon
+        (map task_report answer.now.tasks.items) answer.now.polls) }
 {
     let mut text = String::new(alloc);
     append_jobs(&mut text, answer)?;

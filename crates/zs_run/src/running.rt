@@ -4,7 +4,7 @@ ghost use Rattle.zs_run.specs.Plan.{max_jobs};
 ghost use Rattle.zs_run.specs.PlanView.{plan_record};
 ghost use Rattle.zs_run.specs.PlanReport.{report_of};
 ghost use Rattle.zs_run.specs.Headline.{Ends, max_read};
-ghost use Rattle.zs_run.specs.PlanReads.{Reads};
+ghost use Rattle.zs_run.specs.PlanReads.{Reads, reading};
 
 use crate::plan::Plan;
 use crate::plan_fault::PlanFault;
@@ -27,11 +27,7 @@ const MAX_READ: usize = 16_777_217;
 fn read_source<R: Source>(alloc: Global, reader: &mut R) -> Result<Plan, RunFault>
     requires clear { R.mark reader.old ≡ false }
     ensures reads { Reads result
-        (record {
-          before = R.remaining reader.old;
-          left = R.remaining reader.new;
-          failed = R.mark reader.new;
-        }) }
+        (reading (R.remaining reader.old) (R.remaining reader.new) (R.mark reader.new)) }
     ensures few { IfOk result (λ plan. length plan.jobs.items ≤ max_jobs) }
     ensures pulls { R.pulls reader.new ≤ R.pulls reader.old + max_read }
 {

@@ -67,7 +67,7 @@ impl AskedTicks {
     ghost use Rattle.std.specs.Prelude.{if◌then◌else◌};
     ghost use Rattle.zs_agenda.specs.Tests.{is_clock};
     ghost use Rattle.zs_run.specs.Shapes.{ticks_asked};
-    ghost use Rattle.zs_run.specs.ShapeViews.{asked_view};
+    ghost use Rattle.zs_run.specs.ShapeViews.{asked_view, found_view};
 
     /// The ticks of a document, by its keys `horizon` and `ticks`: just one of the two.
     pub(crate) fn of(
@@ -75,10 +75,8 @@ impl AskedTicks {
         horizon: Option<&Value>,
         ticks: Option<&Value>,
     ) -> Result<AskedTicks, PlanFault>
-        ensures value { Gives asked_view result
-            (demand_some
-            (ticks_asked (option_map (λ v. view v.now) horizon.entry)
-            (option_map (λ v. view v.now) ticks.entry)) (faults.Shape None)) }
+        ensures value { Gives asked_view result (demand_some
+            (ticks_asked (found_view horizon.entry) (found_view ticks.entry)) (faults.Shape None)) }
     {
         match (horizon, ticks) {
             (Some(horizon), None) => {

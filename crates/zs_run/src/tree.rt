@@ -75,9 +75,8 @@ fn is_among(known: &[&str], key: &str) -> bool
 
 // Whether each key is in the list.
 fn keys_are_among(members: &Map<String, Value>, known: &[&str]) -> bool
-    ensures value { result
-        ≡ list_all (λ k. is_one_of (map (λ k. k.now) known.now) (string_bytes k))
-        (keys members.now) }
+    ensures value { result ≡ list_all (λ k.
+        is_one_of (map (λ k. k.now) known.now) (string_bytes k)) (keys members.now) }
 {
     members.keys().all(|key| is_among(known, key.as_str()))
 }
