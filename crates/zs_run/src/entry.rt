@@ -54,16 +54,11 @@ pub(crate) fn beats_of(
     Ok(beats)
 }
 
-// Whether an entry has only known keys.
-fn has_known_keys(entry: &Value) -> bool
-    ensures value { result ≡ has_only_keys entry_keys (view entry.now) }
-{
-    has_only_keys(entry, &["ms", "ok", "err"])
-}
-
 /// Whether all entries have only known keys.
 pub(crate) fn have_known_keys(entries: &[Value]) -> bool
     ensures value { result ≡ list_all (λ v. has_only_keys entry_keys (view v)) entries.now }
 {
-    entries.iter().all(|entry| has_known_keys(entry))
+    entries
+        .iter()
+        .all(|entry| has_only_keys(entry, &["ms", "ok", "err"]))
 }

@@ -103,19 +103,6 @@ pub(crate) fn job_of(
     })
 }
 
-// The same of a value that is dropped as soon as it is read.
-fn take_job(
-    alloc: Global,
-    number: u64,
-    names: &BTreeSet<String>,
-    value: Value,
-) -> Result<Job, PlanFault>
-    ensures value { (earlier : List (List ℕ)) → KnowsNames names.now earlier
-        → Gives job_record result (job_of number earlier (view value)) }
-{
-    job_of(alloc, number, names, &value)
-}
-
 /// Adds a job and its name to those before it. Its one fault is `Memory`.
 pub fn add_job(
     alloc: Global,
@@ -132,7 +119,7 @@ pub fn add_job(
     Ok(())
 }
 
-/// The jobs of a list, or the first fault. Each value is dropped as soon as it is read, while it is
+/// The jobs of a list, or the first fault. Each value is dropped once its job is added, while it is
 /// in the cache. The names so far are in a set, so that each is looked up in short time.
 pub(crate) fn jobs_of(alloc: Global, values: Vec<Value>) -> Result<Vec<Job>, PlanFault>
     requires room { length values.items < 2 ^ 64 }
@@ -144,7 +131,7 @@ pub(crate) fn jobs_of(alloc: Global, values: Vec<Value>) -> Result<Vec<Job>, Pla
     let mut names = BTreeSet::new(alloc);
     let mut number = 0;
     for value in values {
-        let job = take_job(alloc, number, &names, value)?;
+        let job = job_of(alloc, number, &names, &value)?;
         add_job(alloc, &mut names, &mut jobs, job)?;
         number += 1;
     }

@@ -29,13 +29,8 @@ pub(crate) fn read_tree(alloc: Global, bytes: &[u8]) -> Result<Value, PlanFault>
 {
     match Value::from_slice(alloc, bytes) {
         Ok(value) => Ok(value),
-        Err(error) => {
-            if error.is_memory() {
-                Err(PlanFault::Memory)
-            } else {
-                Err(PlanFault::Json)
-            }
-        }
+        Err(error) if error.is_memory() => Err(PlanFault::Memory),
+        Err(_) => Err(PlanFault::Json),
     }
 }
 

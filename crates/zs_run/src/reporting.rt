@@ -2,18 +2,17 @@
 ghost use Rattle.std.specs.Prelude.{◌≡◌, ◌+◌, ◌<◌, ◌^◌, length, [], OnOk, IfOk, IsSome, None, Some, map, option_copied, string_bytes};
 ghost use Rattle.std.specs.List.{flat_map};
 ghost use Rattle.zs_term.specs.OutputText.{Adds};
-ghost use Rattle.zs_drive.specs.Values.{attempted_of, ended_of, step_of};
+ghost use Rattle.zs_drive.specs.Values.{attempted_of, ended_of};
 ghost use Rattle.zs_drive.specs.Lines.{attempts_lines};
 ghost use Rattle.zs_drive.specs.Tasks.{current_timeline};
-ghost use Rattle.zs_run.specs.Report.{end_line, ending_text, head_line, job_lines, last_ended, last_moment, last_output, mode_text, report_text, step_output};
+ghost use Rattle.zs_run.specs.Report.{end_line, ending_text, head_line, job_lines, last_ended, last_moment, last_output, mode_text, report_text};
 ghost use Rattle.zs_run.specs.PlanReport.{with_total};
 ghost use Rattle.zs_run.specs.ReportView.{task_end, task_report};
 
 use std::alloc::{AllocError, Global};
 use zs_drive::{Attempted, Ended, Ending, Mode, Task, append_attempt};
 use zs_engine::Answer;
-use zs_step::Decision;
-use zs_term::{Out, append_out};
+use zs_term::append_out;
 
 // Adds the lines of attempts, of which the first has this number.
 fn push_attempts(text: &mut String, from: u64, attempts: &[Attempted]) -> Result<(), AllocError>
@@ -55,30 +54,17 @@ fn last_moment(task: &Task) -> u64
     requires over { IsSome (current_timeline task.now).ending }
     ensures value { result ≡ last_moment (current_timeline task.now).attempts }
 {
-    match last_end(task) {
-        Some(ended) => ended.at,
-        None => 0,
-    }
+    last_end(task).map_or(0, |ended| ended.at)
 }
 
-// Adds the output of the step after an attempt, if the schedule was stepped.
-fn push_output(text: &mut String, step: &Option<(Out, Decision)>) -> Result<(), AllocError>
-    ensures text { OnOk result (Adds text.old text.new (step_output (step_of step.now))) }
-{
-    match step {
-        None => Ok(()),
-        Some((out, _)) => append_out(text, out),
-    }
-}
-
-// Adds the output of the last step.
+// Adds the output of the last step, if the schedule was stepped.
 fn push_last_output(text: &mut String, task: &Task) -> Result<(), AllocError>
     requires over { IsSome (current_timeline task.now).ending }
     ensures text { OnOk result
         (Adds text.old text.new (last_output (current_timeline task.now).attempts)) }
 {
-    match last_end(task) {
-        Some(ended) => push_output(text, &ended.step),
+    match last_end(task).and_then(|ended| ended.step.as_ref()) {
+        Some((out, _)) => append_out(text, out),
         None => Ok(()),
     }
 }

@@ -64,8 +64,5 @@ pub fn write_all<W: Drain>(writer: &mut W, bytes: &[u8]) -> Result<(), usize>
             Err(Failed) => return Err(sent),
         }
     }
-    if writer.flush().is_err() {
-        return Err(sent);
-    }
-    Ok(())
+    writer.flush().map_err(|_| sent)
 }

@@ -29,10 +29,7 @@ pub(crate) fn text<'v>(value: &'v Value, key: &str) -> Option<&'v str>
 pub(crate) fn as_list(value: &Value) -> Option<&[Value]>
     ensures value { option_map (λ vs. map view vs.now) result ≡ as_list (view value.now) }
 {
-    match value.as_array() {
-        Some(items) => Some(items.as_slice()),
-        None => None,
-    }
+    value.as_array().map(|items| items.as_slice())
 }
 
 /// Returns the list at the key.
@@ -49,20 +46,15 @@ pub(crate) fn take_list(alloc: Global, value: &mut Value, key: &str) -> Option<V
     ensures value { option_map (λ vs. map view vs.items) result
         ≡ find_list key.now (view value.old) }
 {
-    match value.get_mut(key)?.as_array_mut() {
-        Some(items) => Some(mem::replace(items, Vec::new(alloc))),
-        None => None,
-    }
+    let items = value.get_mut(key)?.as_array_mut()?;
+    Some(mem::replace(items, Vec::new(alloc)))
 }
 
 /// Returns the whole number at the key, or the default if there is none.
 pub(crate) fn whole_or(value: &Value, key: &str, default: u64) -> Option<u64>
     ensures value { result ≡ whole_or default (get key.now (view value.now)) }
 {
-    match value.get(key) {
-        None => Some(default),
-        Some(found) => found.as_u64(),
-    }
+    value.get(key).map_or(Some(default), Value::as_u64)
 }
 
 // Whether the text is in the list.
@@ -86,8 +78,7 @@ fn keys_are_among(members: &Map<String, Value>, known: &[&str]) -> bool
 pub(crate) fn has_only_keys(value: &Value, known: &[&str]) -> bool
     ensures value { result ≡ has_only_keys (map (λ k. k.now) known.now) (view value.now) }
 {
-    match value.as_object() {
-        Some(members) => keys_are_among(members, known),
-        None => true,
-    }
+    value
+        .as_object()
+        .is_none_or(|members| keys_are_among(members, known))
 }
