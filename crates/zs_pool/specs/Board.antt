@@ -1,5 +1,5 @@
 -- The rule of a board: batches are claimed from the front, each once; the rest is queued in order.
-use Rattle.std.specs.Prelude.{◌≡◌, ℕ, ◌<◌, ◌≤◌, List, [], ◌∷◌, ◌++◌, length, drop, Some, slice_get, All, Bool, true}
+use Rattle.std.specs.Prelude.{◌≡◌, ℕ, ◌<◌, ◌≤◌, ◌+◌, ◌-◌, ◌||◌, List, [], ◌∷◌, ◌++◌, length, drop, Some, slice_get, All, Bool, true, false}
 use Rattle.std.specs.List.{flat_map, sum_by}
 use Rattle.atomic_table.specs.Seated.{TableId}
 use Rattle.zs_pool.specs.Batches.{BatchValue, AreNumbered, IsEachOnce}
@@ -56,6 +56,31 @@ pub record Claimer : Type 0 where
 -- the pass with these parts
 abbrev pub claimer : BoardId → ℕ → List BatchValue → List ℕ → Bool → Claimer
 claimer board share batches taken none = record { board = board; share = share; batches = batches; taken = taken; none = none }
+
+-- a pass that claimed nothing so far
+abbrev pub fresh_claimer : BoardId → ℕ → List BatchValue → Claimer
+fresh_claimer board share batches = claimer board share batches [] false
+
+-- the pass after another was split off
+abbrev pub split_claimer : BoardId → Claimer → Claimer
+split_claimer board p = claimer board (p.share - 1) p.batches p.taken p.none
+
+-- the pass that is split off: it took nothing, and has seen a `None` if the first has
+abbrev pub new_claimer : BoardId → Claimer → Claimer
+new_claimer board p = claimer board 1 p.batches [] p.none
+
+-- two passes as one, which took what both took
+abbrev pub joined_claimer : BoardId → Claimer → Claimer → Claimer
+joined_claimer board p q = claimer board (p.share + q.share) p.batches (p.taken ++ q.taken) (p.none || q.none)
+
+-- The pass claimed the batch b: one of the board's, unchanged, and later than everything that the
+-- pass took. No claim of the pass had returned `None`.
+abbrev pub HasClaimed : BoardId → Claimer → BatchValue → Claimer → Type 0
+HasClaimed board before b after = (before.none ≡ false) × (slice_get before.batches b.number ≡ Some b) × All (λ k. k < b.number) before.taken × (after ≡ claimer board before.share before.batches (before.taken ++ b.number ∷ []) false)
+
+-- the pass took each batch once
+abbrev pub HasTakenAll : Claimer → Type 0
+HasTakenAll p = IsEachOnce (length p.batches) p.taken
 
 -- how the parts of a pass are related
 pub record IsFit (v : Claims BatchValue) (seat : Counting) (none : Bool) : Type 0 where

@@ -1,6 +1,6 @@
 -- The rule of a counter beside a queue: its word is the sum of what all seats counted, modulo
 -- 2^64, and no seat saw more than the sum.
-use Rattle.std.specs.Prelude.{◌≡◌, ℕ, ◌+◌, ◌%◌, ◌^◌, ◌≤◌, max, List, [], ◌∷◌, sum_by}
+use Rattle.std.specs.Prelude.{◌≡◌, ℕ, ◌+◌, ◌-◌, ◌%◌, ◌^◌, ◌≤◌, max, List, [], ◌∷◌, sum_by}
 use Rattle.atomic_table.specs.Seated.{TableId}
 use Rattle.atomic_table.specs.Table.{State, Step, Me}
 use Rattle.zs_pool.specs.Runs.{Every}
@@ -44,3 +44,11 @@ pub record Counting : Type 0 where
 -- the seat with these parts
 abbrev pub counting : TableId → ℕ → ℕ → ℕ → Counting
 counting counter share count seen = record { counter = counter; share = share; count = count; seen = seen }
+
+-- the seat after another was split off
+abbrev pub split_counting : TableId → Counting → Counting
+split_counting counter s = counting counter (s.share - 1) s.count s.seen
+
+-- two seats as one
+abbrev pub joined_counting : TableId → Counting → Counting → Counting
+joined_counting counter s t = counting counter (s.share + t.share) (s.count + t.count) (max s.seen t.seen)

@@ -35,6 +35,17 @@ pub record IsPart (now : ℕ) (batches : List BatchValue) (first : ℕ) (room : 
   pub count : r.seat.count ≡ first + sizes batches r.board_pass.taken
   pub left : r.seat.allowance + sizes batches r.board_pass.taken + spare ≡ room
 
+-- n workers with shares of 1 are joined: the shares of board and shelf grew by n
+abbrev pub HaveGrown : Rights → ℕ → Rights → Type 0
+HaveGrown r n after = (after.board_pass.share ≡ r.board_pass.share + n) × (after.shelf_pass.share ≡ r.shelf_pass.share + n)
+
+-- if the calling thread had its part while others could count `spare`, the result is the part of
+-- all of them
+abbrev pub IsPartOfAll : ℕ → ℕ → Served → Served → Type 0
+IsPartOfAll now spare before after =
+    (first room : ℕ) → IfOk before.overflow (λ ps. IsPart now before.rights.board_pass.batches first room spare before.rights ps.items)
+    → IfOk after.overflow (λ ps. IsPart now before.rights.board_pass.batches first room 0 after.rights ps.items)
+
 -- all workers are joined into the rights with which the round began; meanwhile these messages were
 -- taken from the shelf
 pub record IsWhole (moment : ℕ) (first : Rights) (r : Rights) (overflow : Overflow) (messages : List PolledValue) : Type 0 where

@@ -2,7 +2,7 @@
 use Rattle.std.specs.Prelude.{◌≡◌, ℕ, true, List, [], ◌∷◌, ◌++◌, ◌⊎◌, All, Option, Some, slice_get, map}
 use Rattle.std.specs.List.{AllZip}
 use Rattle.zs_drive.specs.Tasks.{TaskValue}
-use Rattle.zs_pool.specs.Rounds.{IsPolled}
+use Rattle.zs_pool.specs.Rounds.{IsPolled, polled_at}
 use Rattle.zs_pool.specs.Batches.{BatchValue}
 
 -- a batch that was polled, with the moment
@@ -19,6 +19,14 @@ Saw now task = (task.seen ≡ now) × ((task.broken ≡ true) ⊎ ((ms : List �
 -- each of the tasks has seen the moment
 abbrev pub AllSaw : ℕ → List TaskValue → Type 0
 AllSaw now tasks = All (Saw now) tasks
+
+-- the poll of some task ran out of memory, and broke it
+abbrev pub HasBroken : List TaskValue → Type 0
+HasBroken tasks = (k : ℕ) × (t : TaskValue) × (slice_get tasks k ≡ Some t) × (t.broken ≡ true)
+
+-- no poll ran out of memory: of whatever tasks these are the polls, they are as `after` has them
+abbrev pub AreWhole : List TaskValue → List TaskValue → Type 0
+AreWhole tasks after = (now : ℕ) (before : List TaskValue) → AllZip (IsPolled now) before tasks → after ≡ map (polled_at now) before
 
 -- the message is the poll of the batch: the same number, and the same tasks in order, each polled
 pub record IsPollOf (now : ℕ) (b : BatchValue) (p : PolledValue) : Type 0 where

@@ -1,14 +1,16 @@
 -- What a thread of a round gets, and what it returns.
 use Rattle.std.specs.Prelude.{◌≡◌, ℕ, zero, suc, ◌+◌, ◌≤◌, length, true, false, List, [], ◌∷◌, ◌++◌, All, Result, IfOk, Vec, sum_by, IsPermutation}
+use Rattle.std.specs.Borrow.{Bor}
 use Rattle.std.specs.Global.{Global}
 use Rattle.std.specs.declared.alloc.AllocError.{AllocError}
 use Rattle.zs_term.specs.Saturating.{max_moment}
 use Rattle.zs_pool.specs.Limits.{max_workers}
 use Rattle.zs_pool.specs.Batches.{BatchValue, AllPollable, tasks_in}
 use Rattle.zs_pool.specs.Messages.{PolledValue, IsPollAmong, numbers_of}
-use Rattle.zs_pool.specs.Board.{claimer}
+use Rattle.zs_pool.specs.Board.{BoardId, fresh_claimer}
 use Rattle.zs_pool.specs.Shelf.{shelver}
 use Rattle.zs_pool.specs.Tally.{Seating}
+use Rattle.atomic_table.specs.Seated.{TableId}
 use Rattle.zs_pool.specs.declared.rounds.shared.Shared.{Shared}
 use Rattle.zs_pool.specs.declared.rounds.shared.Rights.{Rights}
 
@@ -19,6 +21,10 @@ Overflow = Result (Vec PolledValue Global) AllocError
 -- n tasks were polled and counted
 abbrev pub HasCounted : Seating → ℕ → Seating → Type 0
 HasCounted before n after = (after.tally ≡ before.tally) × (after.count ≡ before.count + n) × (after.allowance + n ≡ before.allowance)
+
+-- the seat counted nothing, and n of its allowance was split off
+abbrev pub HasLent : TableId → Seating → ℕ → Seating → Type 0
+HasLent tally before n after = (after.tally ≡ tally) × (after.count ≡ before.count) × (after.allowance + n ≡ before.allowance)
 
 -- the number of tasks of batch k, or 0 if there is no such batch
 abbrev pub size_at : List BatchValue → ℕ → ℕ
@@ -48,6 +54,10 @@ abbrev pub IsNew : List BatchValue → Rights → Type 0
 IsNew batches r = (r.board_pass.batches ≡ batches) × (r.board_pass.taken ≡ []) × (r.board_pass.none ≡ false) × (r.shelf_pass.put ≡ []) × (r.shelf_pass.taken ≡ [])
 
 module _ {G : Type 0} where
+  -- what the threads of a round share: these parts
+  abbrev pub sharing : Bor G → Bor BoardId → Bor TableId → Bor TableId → ℕ → ℕ → ℕ → Shared G
+  sharing gate board shelf tally moment tasks batches = record { gate = gate; board = board; shelf = shelf; tally = tally; moment = moment; tasks = tasks; batches = batches }
+
   -- the passes are of the round's board and shelf, and the seat is of its tally
   abbrev pub IsOf : Shared G → Rights → Type 0
   IsOf shared r = (r.board_pass.board ≡ shared.board.now) × (r.shelf_pass.shelf ≡ shared.shelf.now) × (r.seat.tally ≡ shared.tally.now)
@@ -55,7 +65,7 @@ module _ {G : Type 0} where
   -- The rights with which the calling thread begins: exclusive access to board and shelf, and an
   -- allowance for it and its helpers, each of which may count all tasks.
   pub record IsFirst (shared : Shared G) (count : ℕ) (r : Rights) : Type 0 where
-    pub board_pass : r.board_pass ≡ claimer shared.board.now max_moment r.board_pass.batches [] false
+    pub board_pass : r.board_pass ≡ fresh_claimer shared.board.now max_moment r.board_pass.batches
     pub shelf_pass : r.shelf_pass ≡ shelver shared.shelf.now max_moment [] []
     pub tally : r.seat.tally ≡ shared.tally.now
     pub helpers : count ≤ max_workers

@@ -1,5 +1,5 @@
 -- The rule of a shelf: what was put is a permutation of what was taken and what is queued.
-use Rattle.std.specs.Prelude.{◌≡◌, ℕ, List, [], ◌++◌, flat_map, sum_by, IsPermutation}
+use Rattle.std.specs.Prelude.{◌≡◌, ℕ, ◌+◌, ◌-◌, List, [], ◌++◌, length, flat_map, sum_by, IsPermutation}
 use Rattle.atomic_table.specs.Seated.{TableId}
 use Rattle.zs_pool.specs.Messages.{PolledValue}
 use Rattle.zs_pool.specs.Runs.{Every}
@@ -35,3 +35,15 @@ pub record Shelver : Type 0 where
 -- the pass with these parts
 abbrev pub shelver : TableId → ℕ → List PolledValue → List PolledValue → Shelver
 shelver shelf share put taken = record { shelf = shelf; share = share; put = put; taken = taken }
+
+-- the pass after another was split off
+abbrev pub split_shelver : TableId → Shelver → Shelver
+split_shelver shelf p = shelver shelf (p.share - 1) p.put p.taken
+
+-- two passes as one, which put and took what both did
+abbrev pub joined_shelver : TableId → Shelver → Shelver → Shelver
+joined_shelver shelf p q = shelver shelf (p.share + q.share) (p.put ++ q.put) (p.taken ++ q.taken)
+
+-- what the pass put and did not take fills the shelf
+abbrev pub FillsShelf : TableId → Shelver → Type 0
+FillsShelf shelf p = length p.put ≡ length p.taken + shelf.slots

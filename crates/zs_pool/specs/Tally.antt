@@ -1,5 +1,5 @@
 -- The rule of a tally: its word is the sum of what all seats counted, and no seat saw more.
-use Rattle.std.specs.Prelude.{◌≡◌, ℕ, ◌+◌, ◌-◌, ◌≤◌, List, [], ◌∷◌, sum_by}
+use Rattle.std.specs.Prelude.{◌≡◌, ℕ, ◌+◌, ◌-◌, ◌≤◌, max, List, [], ◌∷◌, sum_by}
 use Rattle.atomic_table.specs.Seated.{TableId}
 use Rattle.atomic_table.specs.Table.{State, Step, Me}
 use Rattle.zs_term.specs.Saturating.{max_moment}
@@ -49,3 +49,11 @@ pub record Seating : Type 0 where
 -- the seat with these parts
 abbrev pub seating : TableId → ℕ → ℕ → ℕ → Seating
 seating tally count allowance seen = record { tally = tally; count = count; allowance = allowance; seen = seen }
+
+-- the seat after n of its allowance was split off
+abbrev pub split_seating : TableId → Seating → ℕ → Seating
+split_seating tally s n = seating tally s.count (s.allowance - n) s.seen
+
+-- two seats as one: their counts and allowances are added
+abbrev pub joined_seating : TableId → Seating → Seating → Seating
+joined_seating tally s t = seating tally (s.count + t.count) (s.allowance + t.allowance) (max s.seen t.seen)

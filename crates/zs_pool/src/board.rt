@@ -9,11 +9,11 @@
 //! - `split` splits both handles. `join` joins both, looks at the queue and loads the counter.
 //! - `close` loads the counter, looks at the queue, and pops until it is empty.
 
-ghost use Rattle.std.specs.Prelude.{◌≡◌, ◌∷◌, [], ◌++◌, ◌+◌, ◌-◌, ◌≤◌, ◌<◌, ◌||◌, true, false, length, drop, All, IsOk, IfOk, IfErr, IfSome, IfNone, Some, slice_get};
+ghost use Rattle.std.specs.Prelude.{◌≡◌, [], ◌≤◌, true, length, drop, IsOk, IfOk, IfErr, IfSome, IfNone};
 ghost use Rattle.crossbeam_queue.specs.Passes.{view, IsPassOf};
 ghost use Rattle.zs_term.specs.Saturating.{max_moment};
 ghost use Rattle.zs_pool.specs.Batches.{AreNumbered, IsEachOnce};
-ghost use Rattle.zs_pool.specs.Board.{claimer};
+ghost use Rattle.zs_pool.specs.Board.{claimer, fresh_claimer, split_claimer, new_claimer, joined_claimer, HasClaimed, HasTakenAll};
 ghost use Rattle.zs_pool.specs.declared.fault.PoolFault.TheVariants.{Memory};
 
 mod counter;
@@ -86,7 +86,7 @@ impl Board {
         batches: Vec<Batch>,
     ) -> Result<(Board, BoardPass), PoolFault>
         requires numbered { AreNumbered batches.items }
-        ensures ok { IfOk result (λ r. r.1 ≡ claimer r.0 max_moment batches.items [] false) }
+        ensures ok { IfOk result (λ r. r.1 ≡ fresh_claimer r.0 max_moment batches.items) }
         ensures memory { IfErr result (λ e. e ≡ Memory) }
     {
         let size = batches.len();
@@ -130,8 +130,7 @@ impl Board {
     fn learn_all_taken(&self, pass: &mut BoardPass)
         requires board { pass.old.board ≡ self.now }
         ensures same { pass.new ≡ pass.old }
-        ensures whole { pass.old.share ≡ max_moment → pass.old.none ≡ true
-            → IsEachOnce (length pass.old.batches) pass.old.taken }
+        ensures whole { pass.old.share ≡ max_moment → pass.old.none ≡ true → HasTakenAll pass.old }
     {
         self.queue.learn_as::<Takes>(&mut pass.queue);
         self.counter.look(&mut pass.seat);
@@ -144,12 +143,7 @@ impl Board {
 
         // The batch is unchanged, and later than everything that the pass took. After a `None`
         // there is no other.
-        ensures taken { IfSome result (λ b.
-            (pass.old.none ≡ false) × (slice_get pass.old.batches b.number ≡ Some b)
-            × All (λ k. k < b.number) pass.old.taken
-            × (pass.new
-            ≡ claimer self.now pass.old.share pass.old.batches (pass.old.taken ++ b.number ∷ [])
-            false)) }
+        ensures taken { IfSome result (λ b. HasClaimed self.now pass.old b pass.new) }
 
         // A pass with exclusive access takes the very next one.
         ensures front { IfSome result (λ b.
@@ -159,9 +153,7 @@ impl Board {
         ensures none { IfNone result
             (pass.new ≡ claimer self.now pass.old.share pass.old.batches pass.old.taken true) }
         // A pass with exclusive access has then taken each batch once.
-        ensures whole { IfNone result
-            (pass.old.share ≡ max_moment
-            → IsEachOnce (length pass.old.batches) pass.old.taken) }
+        ensures whole { IfNone result (pass.old.share ≡ max_moment → HasTakenAll pass.old) }
     {
         if !pass.none {
             if let Some(batch) = self.queue.pop_as::<Takes, R>(rt, &mut pass.queue) {
@@ -185,9 +177,8 @@ impl Board {
     ) -> Result<(BoardPass, BoardPass), (BoardPass, PoolFault)>
         requires board { pass.board ≡ self.now }
         requires share { 2 ≤ pass.share }
-        ensures first { IfOk result (λ r.
-            r.0 ≡ claimer self.now (pass.share - 1) pass.batches pass.taken pass.none) }
-        ensures second { IfOk result (λ r. r.1 ≡ claimer self.now 1 pass.batches [] pass.none) }
+        ensures first { IfOk result (λ r. r.0 ≡ split_claimer self.now pass) }
+        ensures second { IfOk result (λ r. r.1 ≡ new_claimer self.now pass) }
         ensures memory { IfErr result (λ e. (e.0 ≡ pass) × (e.1 ≡ Memory)) }
 
         // `new` has allocated the room, so this allocates nothing.
@@ -203,11 +194,8 @@ impl Board {
     pub fn join<R>(&self, _rt: &R, mut pass: BoardPass, other: BoardPass) -> BoardPass
         requires pass { pass.board ≡ self.now }
         requires other { other.board ≡ self.now }
-        ensures joined { result
-            ≡ claimer self.now (pass.share + other.share) pass.batches (pass.taken ++ other.taken)
-            (pass.none || other.none) }
-        ensures whole { result.share ≡ max_moment → result.none ≡ true
-            → IsEachOnce (length result.batches) result.taken }
+        ensures joined { result ≡ joined_claimer self.now pass other }
+        ensures whole { result.share ≡ max_moment → result.none ≡ true → HasTakenAll result }
     {
         let BoardPass { queue, seat, none } = other;
         self.queue.absorb::<Sharing>(&mut pass.queue, queue);

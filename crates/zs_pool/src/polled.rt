@@ -1,10 +1,7 @@
 //! A batch after its polls.
 
-ghost use Rattle.std.specs.Prelude.{◌≡◌, ◌↔◌, ℕ, List, true, IsTrue, slice_get, Some, IfOk, IfErr, map};
-ghost use Rattle.std.specs.List.{AllZip};
-ghost use Rattle.zs_drive.specs.Tasks.{TaskValue};
-ghost use Rattle.zs_pool.specs.Rounds.{IsPolled, polled_at};
-ghost use Rattle.zs_pool.specs.Messages.{AllSaw};
+ghost use Rattle.std.specs.Prelude.{◌≡◌, ◌↔◌, IsTrue, IfOk, IfErr};
+ghost use Rattle.zs_pool.specs.Messages.{AllSaw, AreWhole, HasBroken};
 ghost use Rattle.zs_pool.specs.declared.fault.PoolFault.TheVariants.{Memory};
 
 use crate::fault::PoolFault;
@@ -39,9 +36,7 @@ impl Model for Polled {
 impl Polled {
     /// Whether the poll of a task ran out of memory, and broke the task.
     pub fn broken(&self) -> bool
-        ensures value { IsTrue result
-            ↔ ((k : ℕ) × (t : TaskValue) × (slice_get self.entry.now.tasks k ≡ Some t)
-            × (t.broken ≡ true)) }
+        ensures value { IsTrue result ↔ HasBroken self.entry.now.tasks }
         // Each task has seen the moment, and was polled then or is broken.
         ensures saw { AllSaw self.entry.now.now self.entry.now.tasks }
     {
@@ -50,9 +45,7 @@ impl Polled {
 
     // Returns the tasks, or `Memory` if one is broken.
     pub(crate) fn into_tasks(self) -> Result<Vec<Task>, PoolFault>
-        ensures tasks { IfOk result (λ v.
-            (now : ℕ) (before : List TaskValue) → AllZip (IsPolled now) before self.tasks
-            → v.items ≡ map (polled_at now) before) }
+        ensures tasks { IfOk result (λ v. AreWhole self.tasks v.items) }
         ensures memory { IfErr result (λ e. e ≡ Memory) }
     {
         if self.broken() {

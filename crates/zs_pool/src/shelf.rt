@@ -3,12 +3,12 @@
 //! Atomic steps, each under the rule of the queue (`shelf/rule.rt`): `put` pushes, `take` pops,
 //! `split` splits a handle, `join` joins two, and `close` pops until the queue is empty.
 
-ghost use Rattle.std.specs.Prelude.{◌≡◌, ◌∷◌, [], ◌++◌, ◌+◌, ◌-◌, ◌≤◌, ◌<◌, length, IsOk, IfOk, IfErr, OnOk, IfSome, IfNone, IsPermutation};
+ghost use Rattle.std.specs.Prelude.{◌≡◌, ◌∷◌, [], ◌++◌, ◌≤◌, IsOk, IfOk, IfErr, OnOk, IfSome, IfNone, IsPermutation};
 ghost use Rattle.crossbeam_queue.specs.Passes.{view, IsPassOf};
 ghost use Rattle.zs_term.specs.Saturating.{max_moment};
 ghost use Rattle.zs_pool.specs.declared.fault.PoolFault.TheVariants.{Memory, Full};
 ghost use Rattle.zs_pool.specs.Limits.{max_tasks};
-ghost use Rattle.zs_pool.specs.Shelf.{shelver};
+ghost use Rattle.zs_pool.specs.Shelf.{shelver, split_shelver, joined_shelver, FillsShelf};
 
 mod rule;
 
@@ -81,15 +81,13 @@ impl Shelf {
         message: Polled,
     ) -> Result<(), (Polled, PoolFault)>
         requires shelf { pass.old.shelf ≡ self.now }
-        ensures ok { OnOk result
-            (pass.new
+        ensures ok { OnOk result (pass.new
             ≡ shelver self.now pass.old.share (pass.old.put ++ message ∷ []) pass.old.taken) }
         ensures full { IfErr result (λ e. (e.0 ≡ message) × (e.1 ≡ Full) × (pass.new ≡ pass.old)) }
 
         // With exclusive access, the shelf is full only if `capacity` batches are queued.
         ensures no_room { IfErr result (λ _.
-            pass.old.share ≡ max_moment
-            → length pass.old.put ≡ length pass.old.taken + self.now.slots) }
+            pass.old.share ≡ max_moment → FillsShelf self.now pass.old) }
     {
         let Err(message) = self.queue.push_as::<Puts, R>(rt, &mut pass.queue, message) else {
             return Ok(());
@@ -120,8 +118,7 @@ impl Shelf {
     ) -> Result<(ShelfPass, ShelfPass), (ShelfPass, PoolFault)>
         requires shelf { pass.shelf ≡ self.now }
         requires share { 2 ≤ pass.share }
-        ensures first { IfOk result (λ r.
-            r.0 ≡ shelver self.now (pass.share - 1) pass.put pass.taken) }
+        ensures first { IfOk result (λ r. r.0 ≡ split_shelver self.now pass) }
         ensures second { IfOk result (λ r. r.1 ≡ shelver self.now 1 [] []) }
         ensures memory { IfErr result (λ e. (e.0 ≡ pass) × (e.1 ≡ Memory)) }
 
@@ -136,9 +133,7 @@ impl Shelf {
     pub fn join<R>(&self, _rt: &R, mut pass: ShelfPass, other: ShelfPass) -> ShelfPass
         requires pass { pass.shelf ≡ self.now }
         requires other { other.shelf ≡ self.now }
-        ensures joined { result
-            ≡ shelver self.now (pass.share + other.share) (pass.put ++ other.put)
-            (pass.taken ++ other.taken) }
+        ensures joined { result ≡ joined_shelver self.now pass other }
     {
         let ShelfPass { queue } = other;
         self.queue.absorb::<Sharing>(&mut pass.queue, queue);

@@ -6,9 +6,9 @@
 //!   splits the seat.
 //! - `join` joins two seats, and then loads.
 
-ghost use Rattle.std.specs.Prelude.{◌≡◌, ◌+◌, ◌-◌, ◌≤◌, ◌<◌, max, IfOk, IfErr};
+ghost use Rattle.std.specs.Prelude.{◌≡◌, ◌+◌, ◌-◌, ◌≤◌, IfOk, IfErr};
 ghost use Rattle.zs_term.specs.Saturating.{max_moment};
-ghost use Rattle.zs_pool.specs.Tally.{seating};
+ghost use Rattle.zs_pool.specs.Tally.{seating, split_seating, joined_seating};
 ghost use Rattle.zs_pool.specs.declared.fault.PoolFault.TheVariants.{Memory};
 
 mod rule;
@@ -60,8 +60,7 @@ impl Tally {
     /// Makes a count of 0, and its first seat, which may count 18,446,744,073,709,551,615 times.
     /// Fails only with `Memory`.
     pub fn new(alloc: Global) -> Result<(Tally, TallySeat), PoolFault>
-        ensures ok { IfOk result (λ t.
-            t.1 ≡ seating t.0 0 max_moment 0) }
+        ensures ok { IfOk result (λ t. t.1 ≡ seating t.0 0 max_moment 0) }
         ensures memory { IfErr result (λ e. e ≡ Memory) }
     {
         let (table, seat) = Table::of_words(alloc, &[0], &())?;
@@ -91,8 +90,7 @@ impl Tally {
         ensures rising { seat.old.seen ≤ result }
         // There is room for all counts that the seat may still make.
         ensures within { result + seat.old.allowance ≤ max_moment }
-        ensures kept { seat.new
-            ≡ seating self.now seat.old.count seat.old.allowance result }
+        ensures kept { seat.new ≡ seating self.now seat.old.count seat.old.allowance result }
     {
         self.table.shared.load::<Sees>(&mut seat.seat, 0)
     }
@@ -108,29 +106,23 @@ impl Tally {
     pub(crate) fn split_off(&self, seat: &mut TallySeat, n: u64) -> TallySeat
         requires tally { seat.old.tally ≡ self.now }
         requires left { n ≤ seat.old.allowance }
-        ensures first { seat.new
-            ≡ seating self.now seat.old.count (seat.old.allowance - n) seat.old.seen }
-        ensures second { result
-            ≡ seating self.now 0 n seat.old.seen }
+        ensures first { seat.new ≡ split_seating self.now seat.old n }
+        ensures second { result ≡ seating self.now 0 n seat.old.seen }
     {
         let words = &self.table.shared;
         // The split takes no argument, so the amount is noted in the seat's view: a word that is
         // `n` becomes `n`.
         words.compare_exchange::<Notes>(&mut seat.seat, 0, n, n);
-        let other = words.split_seat::<Sharing>(&mut seat.seat);
         seat.left -= n;
-        TallySeat {
-            seat: other,
-            left: n,
-        }
+        let seat = words.split_seat::<Sharing>(&mut seat.seat);
+        TallySeat { seat, left: n }
     }
 
     /// Joins another seat into this one: its count and its allowance are added.
     pub(crate) fn absorb(&self, seat: &mut TallySeat, other: TallySeat)
         requires seat { seat.old.tally ≡ self.now }
         requires other { other.tally ≡ self.now }
-        ensures joined { seat.new
-            ≡ seating self.now (seat.old.count + other.count) (seat.old.allowance + other.allowance) (max seat.old.seen other.seen) }
+        ensures joined { seat.new ≡ joined_seating self.now seat.old other }
     {
         let TallySeat { seat: theirs, left } = other;
         let words = &self.table.shared;
@@ -144,10 +136,8 @@ impl Tally {
     pub fn split(&self, mut seat: TallySeat, n: u64) -> (TallySeat, TallySeat)
         requires tally { seat.tally ≡ self.now }
         requires left { n ≤ seat.allowance }
-        ensures first { result.0
-            ≡ seating self.now seat.count (seat.allowance - n) seat.seen }
-        ensures second { result.1
-            ≡ seating self.now 0 n seat.seen }
+        ensures first { result.0 ≡ split_seating self.now seat n }
+        ensures second { result.1 ≡ seating self.now 0 n seat.seen }
     {
         let other = self.split_off(&mut seat, n);
         (seat, other)
@@ -157,8 +147,7 @@ impl Tally {
     pub fn join(&self, mut seat: TallySeat, other: TallySeat) -> TallySeat
         requires seat { seat.tally ≡ self.now }
         requires other { other.tally ≡ self.now }
-        ensures joined { result
-            ≡ seating self.now (seat.count + other.count) (seat.allowance + other.allowance) (max seat.seen other.seen) }
+        ensures joined { result ≡ joined_seating self.now seat other }
     {
         self.absorb(&mut seat, other);
         seat

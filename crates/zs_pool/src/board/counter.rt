@@ -2,9 +2,9 @@
 //!
 //! Its atomic steps: `add` is one `fetch_add`, `look` one `load`, `split` splits a seat and `join`
 //! joins two.
-ghost use Rattle.std.specs.Prelude.{◌≡◌, ◌+◌, ◌-◌, ◌≤◌, ◌<◌, max, IfOk};
+ghost use Rattle.std.specs.Prelude.{◌≡◌, ◌+◌, ◌≤◌, ◌<◌, max, IfOk};
 ghost use Rattle.zs_term.specs.Saturating.{max_moment};
-ghost use Rattle.zs_pool.specs.Counter.{counting};
+ghost use Rattle.zs_pool.specs.Counter.{counting, split_counting, joined_counting};
 
 use crate::board::counter_rule::{Adds, Count, Looks, Sharing, Summed};
 use atomic_table::{Seat, Table};
@@ -49,8 +49,7 @@ impl Model for CounterSeat {
 impl Counter {
     /// Makes a count of 0, and its first seat.
     pub(crate) fn new(alloc: Global) -> Result<(Counter, CounterSeat), AllocError>
-        ensures ok { IfOk result (λ t.
-            t.1 ≡ counting t.0 max_moment 0 0) }
+        ensures ok { IfOk result (λ t. t.1 ≡ counting t.0 max_moment 0 0) }
     {
         let (table, seat) = Table::of_words(alloc, &[0], &())?;
         Ok((Counter { table }, CounterSeat { seat }))
@@ -81,10 +80,8 @@ impl Counter {
     pub(crate) fn split(&self, seat: &mut CounterSeat) -> CounterSeat
         requires counter { seat.old.counter ≡ self.now }
         requires share { 2 ≤ seat.old.share }
-        ensures first { seat.new
-            ≡ counting self.now (seat.old.share - 1) seat.old.count seat.old.seen }
-        ensures second { result
-            ≡ counting self.now 1 0 seat.old.seen }
+        ensures first { seat.new ≡ split_counting self.now seat.old }
+        ensures second { result ≡ counting self.now 1 0 seat.old.seen }
     {
         CounterSeat {
             seat: self.table.shared.split_seat::<Sharing>(&mut seat.seat),
@@ -95,12 +92,9 @@ impl Counter {
     pub(crate) fn join(&self, seat: &mut CounterSeat, other: CounterSeat)
         requires counter { (seat.old.counter ≡ self.now) × (other.counter ≡ self.now) }
         requires share { 0 < seat.old.share }
-        ensures joined { seat.new
-            ≡ counting self.now (seat.old.share + other.share) (seat.old.count + other.count) (max seat.old.seen other.seen) }
+        ensures joined { seat.new ≡ joined_counting self.now seat.old other }
     {
-        let CounterSeat { seat: theirs } = other;
-        self.table
-            .shared
-            .join_seat::<Sharing>(&mut seat.seat, theirs);
+        let CounterSeat { seat: more } = other;
+        self.table.shared.join_seat::<Sharing>(&mut seat.seat, more);
     }
 }

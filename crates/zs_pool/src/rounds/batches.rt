@@ -78,8 +78,7 @@ pub(crate) fn in_order(
     let mut all = Vec::new(alloc);
     for slot in slots {
         let Some(message) = slot else { unreachable!() };
-        let mut tasks = message.into_tasks()?;
-        all.append(&mut tasks)?;
+        all.append(&mut message.into_tasks()?)?;
     }
     Ok(all)
 }

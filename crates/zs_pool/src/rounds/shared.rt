@@ -1,8 +1,8 @@
 //! What the threads of a round share, and the rights of each.
-ghost use Rattle.std.specs.Prelude.{◌≡◌, ◌+◌, ◌-◌, ◌≤◌, ◌++◌, ◌||◌, [], max};
-ghost use Rattle.zs_pool.specs.Board.{claimer};
-ghost use Rattle.zs_pool.specs.Shelf.{shelver};
-ghost use Rattle.zs_pool.specs.Tally.{seating};
+ghost use Rattle.std.specs.Prelude.{◌≡◌, ◌≤◌, []};
+ghost use Rattle.zs_pool.specs.Board.{split_claimer, new_claimer, joined_claimer};
+ghost use Rattle.zs_pool.specs.Shelf.{shelver, split_shelver, joined_shelver};
+ghost use Rattle.zs_pool.specs.Tally.{seating, split_seating, joined_seating};
 ghost use Rattle.zs_pool.specs.Shares.{IsOf};
 
 use crate::board::{Board, BoardPass};
@@ -39,15 +39,13 @@ impl<'s, G> Shared<'s, G> {
         requires shares { (2 ≤ rights.board_pass.share) × (2 ≤ rights.shelf_pass.share) }
         requires tasks { self.tasks ≤ rights.seat.allowance }
         ensures board_pass { result.0.board_pass
-            ≡ claimer self.entry.board.now (rights.board_pass.share - 1) rights.board_pass.batches
-            rights.board_pass.taken rights.board_pass.none }
+            ≡ split_claimer self.entry.board.now rights.board_pass }
         ensures shelf_pass { result.0.shelf_pass
-            ≡ shelver self.entry.shelf.now (rights.shelf_pass.share - 1) rights.shelf_pass.put
-            rights.shelf_pass.taken }
+            ≡ split_shelver self.entry.shelf.now rights.shelf_pass }
         ensures seat { result.0.seat
-            ≡ seating self.entry.tally.now rights.seat.count (rights.seat.allowance - self.entry.tasks) rights.seat.seen }
+            ≡ split_seating self.entry.tally.now rights.seat self.entry.tasks }
         ensures own_board_pass { result.1.board_pass
-            ≡ claimer self.entry.board.now 1 rights.board_pass.batches [] rights.board_pass.none }
+            ≡ new_claimer self.entry.board.now rights.board_pass }
         ensures own_shelf_pass { result.1.shelf_pass ≡ shelver self.entry.shelf.now 1 [] [] }
         ensures own_seat { result.1.seat
             ≡ seating self.entry.tally.now 0 self.entry.tasks rights.seat.seen }
@@ -77,15 +75,10 @@ impl<'s, G> Shared<'s, G> {
         requires of { IsOf self rights }
         requires other { IsOf self other }
         ensures board_pass { result.board_pass
-            ≡ claimer self.entry.board.now (rights.board_pass.share + other.board_pass.share)
-            rights.board_pass.batches (rights.board_pass.taken ++ other.board_pass.taken)
-            (rights.board_pass.none || other.board_pass.none) }
+            ≡ joined_claimer self.entry.board.now rights.board_pass other.board_pass }
         ensures shelf_pass { result.shelf_pass
-            ≡ shelver self.entry.shelf.now (rights.shelf_pass.share + other.shelf_pass.share)
-            (rights.shelf_pass.put ++ other.shelf_pass.put)
-            (rights.shelf_pass.taken ++ other.shelf_pass.taken) }
-        ensures seat { result.seat
-            ≡ seating self.entry.tally.now (rights.seat.count + other.seat.count) (rights.seat.allowance + other.seat.allowance) (max rights.seat.seen other.seat.seen) }
+            ≡ joined_shelver self.entry.shelf.now rights.shelf_pass other.shelf_pass }
+        ensures seat { result.seat ≡ joined_seating self.entry.tally.now rights.seat other.seat }
     {
         Rights {
             board_pass: self.board.join(rt, rights.board_pass, other.board_pass),

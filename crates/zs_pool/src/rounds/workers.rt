@@ -1,16 +1,16 @@
 //! What each thread of a round does: it claims, polls and puts. Helpers are started and joined.
-ghost use Rattle.std.specs.Prelude.{ℕ, ◌≡◌, ◌≢◌, ◌+◌, ◌-◌, All, IfOk, IfErr, [], false, length};
+ghost use Rattle.std.specs.Prelude.{◌≡◌, ◌≢◌, ◌-◌, All, IfOk, IfErr, [], length};
 ghost use Rattle.zs_term.specs.Saturating.{max_moment};
-ghost use Rattle.zs_pool.specs.Board.{claimer};
+ghost use Rattle.zs_pool.specs.Board.{fresh_claimer};
 ghost use Rattle.zs_pool.specs.Shelf.{shelver};
-ghost use Rattle.zs_pool.specs.Shares.{IsOf, IsReady, IsFirst, IsSame, HasServed, rooms};
-ghost use Rattle.zs_pool.specs.Joined.{Promised, AreBoth, IsPart, allowed};
+ghost use Rattle.zs_pool.specs.Shares.{IsOf, IsReady, IsFirst, IsSame, HasServed, HasLent, sharing, rooms};
+ghost use Rattle.zs_pool.specs.Joined.{Promised, AreBoth, HaveGrown, IsPartOfAll, allowed};
 ghost use Rattle.zs_pool.specs.declared.fault.PoolFault.TheVariants.{Full, Memory, NoThread};
 
 use crate::fault::PoolFault;
 use crate::gate::Gate;
 use crate::polled::Polled;
-use crate::poller::{Poller, Polling};
+use crate::poller::Poller;
 use crate::polling::poll_in;
 use crate::rounds::shared::{Rights, Shared};
 use std::alloc::{AllocError, Global};
@@ -67,23 +67,21 @@ fn wait_for<R: Threads>(rt: &R, workers: Vec<Worker>) -> Result<(), PoolFault>
 
 impl<'s, G: Gate> Shared<'s, G> {
     // Claims, polls and puts until the board is empty.
-    fn serve_in<R: Wait>(
-        self,
-        rt: &R,
-        alloc: Global,
-        rights: &mut Rights,
-        polling: &mut Polling<'_, G>,
-    ) -> Overflow
+    fn serve_in<R: Wait>(self, rt: &R, alloc: Global, rights: &mut Rights) -> Overflow
         requires ready { IsReady self rights.old }
         ensures same { IsSame rights.old rights.new }
         ensures served { HasServed self.entry.moment rights.old rights.new result }
     {
+        let Ok(poller) = Poller::new(alloc) else {
+            return Err(AllocError);
+        };
+        let mut polls = poller.begin(self.gate);
         let mut kept = Vec::new(alloc);
         for _ in rt.forever() {
             let Some(batch) = self.board.claim(rt, &mut rights.board_pass) else {
                 return Ok(kept);
             };
-            let message = poll_in(polling, self.tally, &mut rights.seat, self.moment, batch);
+            let message = poll_in(&mut polls, self.tally, &mut rights.seat, self.moment, batch);
             if let Err((back, _full)) = self.shelf.put(rt, &mut rights.shelf_pass, message) {
                 kept.push(back)?;
             }
@@ -98,12 +96,7 @@ impl<'s, G: Gate> Shared<'s, G> {
         ensures same { IsSame rights result.rights }
         ensures served { HasServed self.entry.moment rights result.rights result.overflow }
     {
-        let Ok(poller) = Poller::new(alloc) else {
-            let overflow = Err(AllocError);
-            return Served { rights, overflow };
-        };
-        let mut polling = poller.begin(self.gate);
-        let overflow = self.serve_in(rt, alloc, &mut rights, &mut polling);
+        let overflow = self.serve_in(rt, alloc, &mut rights);
         Served { rights, overflow }
     }
 
@@ -127,16 +120,8 @@ impl<'s, G: Gate> Shared<'s, G> {
         let shared = self;
         let moment = self.moment;
         let run = move || -> Served
-            requires ready { IsReady
-                (record {
-                  gate = shared.gate;
-                  board = shared.board;
-                  shelf = shared.shelf;
-                  tally = shared.tally;
-                  moment = moment;
-                  tasks = shared.tasks;
-                  batches = shared.batches;
-                }) rights }
+            requires ready { IsReady (sharing shared.gate shared.board shared.shelf shared.tally
+                moment shared.tasks shared.batches) rights }
             ensures served { IsSame rights result.rights
                 × HasServed moment rights result.rights result.overflow }
         { Shared { moment, ..shared }.serve(rt, alloc, rights) };
@@ -153,15 +138,12 @@ impl<'s, G: Gate> Shared<'s, G> {
         mut rights: Rights,
     ) -> Result<(Rights, Vec<Worker>), PoolFault>
         requires first { IsFirst self count rights }
-        ensures board_pass { IfOk result (λ s.
-            s.0.board_pass
-            ≡ claimer self.entry.board.now (max_moment - count) rights.board_pass.batches []
-            false) }
+        ensures board_pass { IfOk result (λ s. s.0.board_pass
+            ≡ fresh_claimer self.entry.board.now (max_moment - count) rights.board_pass.batches) }
         ensures shelf_pass { IfOk result (λ s.
             s.0.shelf_pass ≡ shelver self.entry.shelf.now (max_moment - count) [] []) }
         ensures seat { IfOk result (λ s.
-            (s.0.seat.tally ≡ self.entry.tally.now) × (s.0.seat.count ≡ rights.seat.count)
-            × (s.0.seat.allowance + rooms count self.entry.tasks ≡ rights.seat.allowance)) }
+            HasLent self.entry.tally.now rights.seat (rooms count self.entry.tasks) s.0.seat) }
         ensures count { IfOk result (λ s.
             (length s.1.items ≡ count) × (allowed s.1.items ≡ rooms count self.entry.tasks)) }
         ensures each { IfOk result (λ s.
@@ -173,11 +155,7 @@ impl<'s, G: Gate> Shared<'s, G> {
             let (rest, own) = self.split(rt, alloc, rights);
             rights = rest;
             match self.start(rt, scope, alloc, own) {
-                Ok(worker) => {
-                    let Ok(()) = workers.push(worker) else {
-                        unreachable!()
-                    };
-                }
+                Ok(worker) => workers.push(worker)?,
                 Err(refused) => {
                     wait_for(rt, workers)?;
                     return Err(refused);
@@ -198,18 +176,9 @@ impl<'s, G: Gate> Shared<'s, G> {
         requires each { All (Promised self served.rights.board_pass.batches) workers.items }
         ensures of { IsOf self.entry result.rights }
         ensures batches { result.rights.board_pass.batches ≡ served.rights.board_pass.batches }
-        ensures shares { (result.rights.board_pass.share
-            ≡ served.rights.board_pass.share + length workers.items)
-            × (result.rights.shelf_pass.share
-            ≡ served.rights.shelf_pass.share + length workers.items) }
+        ensures shares { HaveGrown served.rights (length workers.items) result.rights }
         ensures taken { result.rights.shelf_pass.taken ≡ served.rights.shelf_pass.taken }
-        ensures part { (first room : ℕ)
-            → IfOk served.overflow (λ ps.
-            IsPart self.entry.moment served.rights.board_pass.batches first room
-            (allowed workers.items) served.rights ps.items)
-            → IfOk result.overflow (λ ps.
-            IsPart self.entry.moment served.rights.board_pass.batches first room 0
-            result.rights ps.items) }
+        ensures part { IsPartOfAll self.entry.moment (allowed workers.items) served result }
     {
         for worker in workers {
             let more = worker.join(rt);

@@ -20,7 +20,7 @@ loop-slot-preserved c =
     let rest : List (Option PolledValue) = into_iter_items c.next.new.self in
     let step : into_iter_items c.loop-slot.slot-iterator ≡ Some c.in-Some-slot.message ∷ rest = c.in-Some.ensures.steps.0 ∙ ap (λ o. o ∷ rest) c.in-Some-slot.is in
     let more : (ts : List TaskValue) → AllZip (IsPolled c.args.now) ts c.in-Some-slot.message.tasks → c.append.new.self.items ≡ c.loop-slot.all.items ++ map (polled_at c.args.now) ts =
-    λ ts polls. c.in_ok-append.ensures.items ∙ ap (λ l. c.loop-slot.all.items ++ l) (c.in_ok-tasks.ensures.tasks c.args.now ts polls)
+    λ ts polls. c.in_ok-append.ensures.items ∙ ap (λ l. c.loop-slot.all.items ++ l) (c.in_ok-into_tasks.ensures.tasks c.args.now ts polls)
     in
     goes_on c.args.now c.args.batches.now.value.items c.loop-slot.all.items c.append.new.self.items (into_iter_items c.loop-slot.slot-iterator) rest c.in-Some-slot.message step more c.loop-slot.invariant
 

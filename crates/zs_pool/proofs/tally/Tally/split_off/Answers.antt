@@ -5,5 +5,5 @@ use Rattle.zs_pool.proofs.tally.Tally.split_off.Goals as goal
 pub compare_exchange-requires : goal.compare_exchange-requires
 compare_exchange-requires c = (search rules, omega (arith, c.self.invariant.0), notes _ _ _ _)
 
-pub split_seat-other-requires : goal.split_seat-other-requires
-split_seat-other-requires c = (search rules, omega (arith, c.self.invariant.0), splits _ _ (search rules))
+pub split_seat-seat-requires : goal.split_seat-seat-requires
+split_seat-seat-requires c = (search rules, omega (arith, c.self.invariant.0), splits _ _ (search rules))

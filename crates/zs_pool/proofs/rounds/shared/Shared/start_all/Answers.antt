@@ -29,7 +29,7 @@ loop-i-preserved g c =
     let P : Claimer → Claimer = λ v. claimer board (v.share - 1) v.batches v.taken v.none in
     let H : Shelver → Shelver = λ v. shelver shelf (v.share - 1) v.put v.taken in
     let less : (max_moment - i) - 1 ≡ max_moment - (i + 1) = omega arith in
-    let more = c.in-Ok-push.ensures.items in
+    let more = c.in_ok-push-in-Ok.ensures.items in
     let fresh : IsFresh c.args.self bs own =
     fresh_own c.args.self bs (max_moment - i) _ c.loop-i.rights.board_pass own was.0 told.own_board_pass told.own_shelf_pass told.own_seat c.requires.first.tasks
     in
