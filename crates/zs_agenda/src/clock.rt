@@ -103,9 +103,7 @@ impl Clock {
     pub fn tick(&self, due: u64) -> Option<u64>
         ensures value { result ≡ first_tick self.now due }
         // In other words: `None` if no tick is late enough, else the least one that is.
-        ensures first { MatchOption result
-            (HasNoTickFrom self.now due)
-            (IsFirstTick self.now due) }
+        ensures first { MatchOption result (HasNoTickFrom self.now due) (IsFirstTick self.now due) }
         ensures within { IfSome result (λ t. t ≤ horizon self.now) }
     {
         match &self.source {

@@ -71,8 +71,7 @@ impl Engine {
         requires new { IsNew self.old }
         ensures new { OnOk result (IsNew self.new) }
         ensures clock { OnOk result (self.new.clock ≡ self.old.clock) }
-        ensures jobs { OnOk result
-            (jobs_in self.new.slots.items
+        ensures jobs { OnOk result (jobs_in self.new.slots.items
             ≡ jobs_in self.old.slots.items ++ job_kept keeps job ∷ []) }
     {
         let task = Task::keeping(self.alloc, self.slots.len() as u64, job, keeps)?;
