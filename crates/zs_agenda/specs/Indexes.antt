@@ -3,7 +3,8 @@
 -- moment is later than the last one taken.
 -- Public clauses don't name these words. `proofs/IndexLemmas.antt` proves that each step preserves
 -- the invariant.
-use Rattle.std.specs.Prelude.{◌≡◌, ◌≢◌, ◌<◌, ◌≤◌, ◌↔◌, ◌==◌, ℕ, Bool, true, false, nat_lt, List, [], ◌∷◌, Option, Some, None, if◌then◌else◌, unwrap_or, vec_len, ⊤}
+use Rattle.std.specs.Prelude.{◌≡◌, ◌≢◌, ◌<◌, ◌≤◌, ◌↔◌, ◌==◌, ℕ, Bool, true, false, nat_lt, List, []}
+use Rattle.std.specs.Prelude.{◌∷◌, Option, Some, None, if◌then◌else◌, unwrap_or, vec_len, ⊤}
 use Rattle.std.specs.Global.{Vec}
 use Rattle.std.specs.Vec.{vec_capacity}
 use Rattle.std.specs.List.{AllByRecursion, list_any}
@@ -52,7 +53,8 @@ HasNoRoom (Some jobs) = vec_capacity jobs ≤ vec_len jobs
 -- new is old with a job added at the moment
 abbrev pub Adds : ByMoment → ByMoment → ℕ → ℕ → Type 0
 Adds old new moment job =
-    (t : ℕ) → jobs_at new t ≡ (if t == moment then Some (placed job (unwrap_or (jobs_at old moment) [])) else jobs_at old t)
+    (t : ℕ) → jobs_at new t ≡ (if t == moment
+    then Some (placed job (unwrap_or (jobs_at old moment) [])) else jobs_at old t)
 
 -- both have the same jobs at each moment
 abbrev pub HasSameJobs : ByMoment → ByMoment → Type 0
@@ -60,7 +62,8 @@ HasSameJobs old new = (t : ℕ) → jobs_at new t ≡ jobs_at old t
 
 -- new is old with this moment for the job
 abbrev pub Puts : ByJob → ByJob → ℕ → ℕ → Type 0
-Puts old new job moment = (q : ℕ) → get nat_cmp new q ≡ (if job == q then Some moment else get nat_cmp old q)
+Puts old new job moment = (q : ℕ)
+    → get nat_cmp new q ≡ (if job == q then Some moment else get nat_cmp old q)
 
 -- both have the same moment for each job
 abbrev pub HasSameMoments : ByJob → ByJob → Type 0
@@ -69,14 +72,16 @@ HasSameMoments old new = (q : ℕ) → get nat_cmp new q ≡ get nat_cmp old q
 -- new is old without the moments of these jobs
 abbrev pub Forgets : ByJob → ByJob → List ℕ → Type 0
 Forgets old new jobs =
-    (job : ℕ) → get nat_cmp new job ≡ (if list_any (λ j. j == job) jobs then None else get nat_cmp old job)
+    (job : ℕ)
+    → get nat_cmp new job ≡ (if list_any (λ j. j == job) jobs then None else get nat_cmp old job)
 
 -- the moment of each job, as callers see it
 abbrev pub moments_of : ByJob → Moments
 moments_of m = from_entries m.entries
 
 -- both maps agree, each list rises, none is empty, and each moment is later than the last taken
-pub record Agrees (jobs_of : ℕ → Option (List ℕ)) (moment_of : ℕ → Option ℕ) (taken : Option ℕ) : Type 0 where
+pub record Agrees (jobs_of : ℕ → Option (List ℕ))
+    (moment_of : ℕ → Option ℕ) (taken : Option ℕ) : Type 0 where
   pub agree : (job t : ℕ) → (moment_of job ≡ Some t) ↔ (is_among job (jobs_of t) ≡ true)
   pub rising : (t : ℕ) (jobs : List ℕ) → jobs_of t ≡ Some jobs → IsRising jobs
   pub not_empty : (t : ℕ) (jobs : List ℕ) → jobs_of t ≡ Some jobs → jobs ≢ []

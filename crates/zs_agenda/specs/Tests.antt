@@ -1,6 +1,7 @@
 -- The limits of clocks as tests that compute, for definitions that need a choice. The law
 -- `clocks_are_tested` says that they pass exactly if `IsTickList` and `IsClock` are true.
-use Rattle.std.specs.Prelude.{◌&&◌, ◌-◌, length, slice_index, ℕ, List, [], ◌∷◌, Bool, true, nat_lt, nat_le}
+use Rattle.std.specs.Prelude.{◌&&◌, ◌-◌, length, slice_index, ℕ, List, [], ◌∷◌, Bool, true, nat_lt}
+use Rattle.std.specs.Prelude.{nat_le}
 use Rattle.std.specs.List.{list_all}
 use Rattle.zs_agenda.specs.Ticks.{Ticks, every_ms, listed, max_horizon, max_ticks}
 

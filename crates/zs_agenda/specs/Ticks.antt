@@ -1,7 +1,8 @@
 -- A clock as the finite set of its ticks, and the first tick from a moment on, in milliseconds.
 -- `IsTick` defines a tick; `first_tick` and `horizon` compute. The contracts of `Clock::tick` and
 -- `Clock::horizon` tie them to `IsFirstTick`, `HasNoTickFrom` and `IsTick` for every clock.
-use Rattle.std.specs.Prelude.{◌≤◌, ◌<◌, ◌-◌, length, slice_index, ℕ, List, Option, Some, None, Contains, find, nat_le, if◌then◌else◌}
+use Rattle.std.specs.Prelude.{◌≤◌, ◌<◌, ◌-◌, length, slice_index, ℕ, List, Option, Some, None}
+use Rattle.std.specs.Prelude.{Contains, find, nat_le, if◌then◌else◌}
 use Rattle.std.specs.List.Sorted.{IsStrictlyIncreasing}
 use Rattle.zs_agenda.specs.declared.clock.TheConstants.{MAX_HORIZON, MAX_TICKS}
 

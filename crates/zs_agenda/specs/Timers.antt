@@ -18,7 +18,8 @@ pub record Timers : Type 0 where
 -- timers are coded as the pair of their fields
 abbrev pub timers_code : Coded Timers
 timers_code =
-    code_by (Moments × Option ℕ) (coded× (code coded_ℕ coded_ℕ) (coded_option coded_ℕ)) (λ t. (t.moments, t.last_taken))
+    code_by (Moments × Option ℕ) (coded× (code coded_ℕ coded_ℕ) (coded_option coded_ℕ))
+    (λ t. (t.moments, t.last_taken))
     (λ p. record { moments = p.0; last_taken = p.1 }) (λ _. refl)
 
 -- t is later than the last moment taken, if there was one
@@ -37,11 +38,13 @@ pub record Takes (old new : Timers) (t : ℕ) (jobs : List ℕ) : Type 0 where
   pub is_after : IsAfter old.last_taken t
   pub all_jobs : (job : ℕ) → Contains jobs job ↔ (get old.moments job ≡ Some t)
   pub in_order : IsStrictlyIncreasing jobs
-  pub others_stay : (job s : ℕ) → (get new.moments job ≡ Some s) ↔ ((get old.moments job ≡ Some s) × (s ≢ t))
+  pub others_stay : (job s : ℕ)
+      → (get new.moments job ≡ Some s) ↔ ((get old.moments job ≡ Some s) × (s ≢ t))
   pub is_last : new.last_taken ≡ Some t
 
 -- the queue before a take determines its moment, its jobs and the queue after it
 abbrev pub TakesOneWay : Type 0
 TakesOneWay =
-    (old new other : Timers) (t s : ℕ) (jobs others : List ℕ) → Takes old new t jobs → Takes old other s others
+    (old new other : Timers) (t s : ℕ) (jobs others : List ℕ)
+    → Takes old new t jobs → Takes old other s others
     → (s ≡ t) × (others ≡ jobs) × (other ≡ new)

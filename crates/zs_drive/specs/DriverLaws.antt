@@ -10,7 +10,8 @@ use Rattle.zs_drive.specs.Tasks.{timeline_at}
 
 -- a law that is true of every job and every clock
 abbrev pub OnEachClock : (JobRecord → List ℕ → Type 0) → Type 0
-OnEachClock Law = (job : JobRecord) (ticks : List ℕ) → IsScript job.script → AreTicks ticks → Law job ticks
+OnEachClock Law = (job : JobRecord) (ticks : List ℕ)
+    → IsScript job.script → AreTicks ticks → Law job ticks
 
 -- the moments at which a job is polled on a clock
 abbrev pub polls_on : JobRecord → List ℕ → List ℕ
@@ -18,25 +19,30 @@ polls_on job ticks = poll_moments (timeline_of job ticks).attempts
 
 -- The clock has no tick at or after the due moment, so nothing more can happen.
 abbrev pub WaitsForNoTick : JobRecord → List ℕ → Type 0
-WaitsForNoTick job ticks = IfSome (timeline_of job ticks).due (λ due. first_tick_from ticks due ≡ None)
+WaitsForNoTick job ticks =
+    IfSome (timeline_of job ticks).due (λ due. first_tick_from ticks due ≡ None)
 
 -- The job has a due moment exactly while it has no ending.
 abbrev pub WaitsOrEnded : JobRecord → List ℕ → Type 0
-WaitsOrEnded job ticks = is_some (timeline_of job ticks).due ≡ not (is_some (timeline_of job ticks).ending)
+WaitsOrEnded job ticks =
+    is_some (timeline_of job ticks).due ≡ not (is_some (timeline_of job ticks).ending)
 
 -- An attempt ends later than it began.
 abbrev pub EndsLater : JobRecord → List ℕ → Type 0
-EndsLater job ticks = (earlier later : List AttemptedValue) (attempt : AttemptedValue) → (timeline_of job ticks).attempts ≡ earlier ++ attempt ∷ later
+EndsLater job ticks = (earlier later : List AttemptedValue) (attempt : AttemptedValue)
+    → (timeline_of job ticks).attempts ≡ earlier ++ attempt ∷ later
     → IfSome attempt.ended (λ end. attempt.begun < end.at)
 
 -- The next attempt begins when the one before it ended, or later.
 abbrev pub BeginsLater : JobRecord → List ℕ → Type 0
-BeginsLater job ticks = (earlier later : List AttemptedValue) (attempt next : AttemptedValue) → (timeline_of job ticks).attempts ≡ earlier ++ attempt ∷ next ∷ later
+BeginsLater job ticks = (earlier later : List AttemptedValue) (attempt next : AttemptedValue)
+    → (timeline_of job ticks).attempts ≡ earlier ++ attempt ∷ next ∷ later
     → IfSome attempt.ended (λ end. end.at ≤ next.begun)
 
 -- The polls are at ticks.
 abbrev pub PollsAtTicks : JobRecord → List ℕ → Type 0
-PollsAtTicks job ticks = All (λ moment. first_tick_from ticks moment ≡ Some moment) (polls_on job ticks)
+PollsAtTicks job ticks =
+    All (λ moment. first_tick_from ticks moment ≡ Some moment) (polls_on job ticks)
 
 -- The polls rise strictly, so no moment has two of them.
 abbrev pub PollsRise : JobRecord → List ℕ → Type 0
@@ -56,4 +62,5 @@ pub record IsReached (job : JobRecord) (ticks first : List ℕ) : Type 0 where
 
 -- After any number of its first polls, a job has its timeline on the clock up to then.
 abbrev pub FirstPollsSuffice : JobRecord → List ℕ → Type 0
-FirstPollsSuffice job ticks = (first rest : List ℕ) → polls_on job ticks ≡ first ++ rest → IsReached job ticks first
+FirstPollsSuffice job ticks = (first rest : List ℕ)
+    → polls_on job ticks ≡ first ++ rest → IsReached job ticks first

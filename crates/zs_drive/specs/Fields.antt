@@ -8,7 +8,14 @@ use Rattle.zs_drive.specs.Progress.{moments_in, job_in, ending_of, IsProgress, H
 
 -- the task as contracts know it
 abbrev pub task_of : Inside → TaskValue
-task_of t = record { number = t.number; job = job_in t.progress.value; keeps = keeping_of t.progress.value.log; moments = moments_in t.progress.value; seen = t.progress.value.seen; broken = t.broken }
+task_of t = record {
+  number = t.number;
+  job = job_in t.progress.value;
+  keeps = keeping_of t.progress.value.log;
+  moments = moments_in t.progress.value;
+  seen = t.progress.value.seen;
+  broken = t.broken;
+}
 
 -- the invariant of a task; a broken one may lack its schedule's state, and has no ending
 pub record IsTask (t : Inside) : Type 0 where

@@ -1,5 +1,6 @@
 -- What a log stores: some attempts as lines with their moments, and the others as records.
-use Rattle.std.specs.Prelude.{◌≡◌, ℕ, ◌+◌, ◌≤◌, List, [], ◌++◌, length, map, flat_map, fold, option_to_list, string_bytes, None, vec_len}
+use Rattle.std.specs.Prelude.{◌≡◌, ℕ, ◌+◌, ◌≤◌, List, [], ◌++◌, length, map, flat_map, fold}
+use Rattle.std.specs.Prelude.{option_to_list, string_bytes, None, vec_len}
 use Rattle.std.specs.Vec.{vec_capacity}
 use Rattle.zs_drive.specs.declared.record.Attempted.{Attempted}
 use Rattle.zs_drive.specs.declared.record.Keeping.{Keeping}
@@ -43,7 +44,8 @@ log_count log = told_in log + length (records_in log)
 
 -- the set of all moments at which an attempt begins or ends
 abbrev pub log_moments : Log → List ℕ
-log_moments log = fold with_moment [] (moments_told log ++ flat_map moments_of (map attempted_of (records_in log)))
+log_moments log = fold with_moment []
+    (moments_told log ++ flat_map moments_of (map attempted_of (records_in log)))
 
 -- the log stores exactly these attempts
 pub record IsLog (log : Log) (attempts : List AttemptedValue) : Type 0 where
@@ -62,7 +64,8 @@ pub record IsSameLog (old new : Log) : Type 0 where
 
 -- one more attempt is stored as lines, and none as a record
 pub record Tells (old new : Told) (attempt : AttemptedValue) : Type 0 where
-  pub lines : string_bytes new.lines ≡ string_bytes old.lines ++ attempt_lines (old.count + 1) attempt
+  pub lines : string_bytes new.lines
+      ≡ string_bytes old.lines ++ attempt_lines (old.count + 1) attempt
   pub count : new.count ≡ old.count + 1
   pub moments : new.moments.items ≡ old.moments.items ++ moments_of attempt
   pub last : new.last ≡ None

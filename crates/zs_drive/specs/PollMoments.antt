@@ -1,5 +1,6 @@
 -- The moments at which a job was polled while it was due, computed from its attempts.
-use Rattle.std.specs.Prelude.{ℕ, List, [], ◌∷◌, ◌++◌, flat_map, fold, nat_eq, option_to_list, option_map, if◌then◌else◌}
+use Rattle.std.specs.Prelude.{ℕ, List, [], ◌∷◌, ◌++◌, flat_map, fold, nat_eq, option_to_list}
+use Rattle.std.specs.Prelude.{option_map, if◌then◌else◌}
 use Rattle.std.specs.List.{list_any}
 use Rattle.zs_drive.specs.Values.{AttemptedValue}
 

@@ -26,7 +26,13 @@ ending_of (Over ending) = Some ending
 
 -- the job that the fields represent
 abbrev pub job_in : Progress → JobRecord
-job_in p = record { name = string_bytes p.name; mode = p.mode; schedule = compiled_schedule p.schedule; start = p.start; script = p.script }
+job_in p = record {
+  name = string_bytes p.name;
+  mode = p.mode;
+  schedule = compiled_schedule p.schedule;
+  start = p.start;
+  script = p.script;
+}
 
 -- the moments at which it was polled while it was due
 abbrev pub moments_in : Progress → List ℕ
@@ -38,12 +44,14 @@ attempts_of p = (timeline_of (job_in p) (moments_in p)).attempts
 
 -- the timeline so far
 abbrev pub timeline_in : Progress → Timeline
-timeline_in p = record { attempts = attempts_of p; due = due_of p.phase; ending = ending_of p.phase }
+timeline_in p =
+    record { attempts = attempts_of p; due = due_of p.phase; ending = ending_of p.phase }
 
 -- The schedule continued after all attempts while it waits, after all but the last while one runs.
 abbrev pub IsPhase : JobRecord → List AttemptedValue → ℕ → Phase → Type 0
 IsPhase job attempts seen (Waiting due) = AllContinued attempts
-IsPhase job attempts seen (Running attempt) = (others : List AttemptedValue) × (s : ℕ) × IsRunning job attempts attempt seen others s
+IsPhase job attempts seen (Running attempt) =
+    (others : List AttemptedValue) × (s : ℕ) × IsRunning job attempts attempt seen others s
 IsPhase job attempts seen (Over ending) = ⊤
 
 -- Until the job is over, the schedule's state represents its attempts.

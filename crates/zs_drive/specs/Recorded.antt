@@ -26,12 +26,14 @@ pub record IsOnTimeline (job : JobRecord) (timeline : Timeline) (polls : ℕ) : 
   pub few : length timeline.attempts ≤ polls
 
 -- the schedule's state represents the attempts, and was stepped at `seen` at the latest
-pub record IsStepped (attempts : List AttemptedValue) (schedule : Compiled) (seen : ℕ) : Type 0 where
+pub record IsStepped (attempts : List AttemptedValue)
+    (schedule : Compiled) (seen : ℕ) : Type 0 where
   pub stands : StandsFor schedule (history_after attempts)
   pub past : last_seen schedule ≤ seen
 
 -- the last attempt runs: it began at s, after others after which the schedule continued
-pub record IsRunning (job : JobRecord) (attempts : List AttemptedValue) (attempt : AttemptValue) (seen : ℕ) (others : List AttemptedValue) (s : ℕ) : Type 0 where
+pub record IsRunning (job : JobRecord) (attempts : List AttemptedValue)
+    (attempt : AttemptValue) (seen : ℕ) (others : List AttemptedValue) (s : ℕ) : Type 0 where
   pub last : attempts ≡ others ++ runs s ∷ []
   pub continued : AllContinued others
   pub outcome : attempt.outcome ≡ (beat_after job (history_after others)).outcome

@@ -12,7 +12,9 @@ use Rattle.zs_term.specs.declared.forms.Counted.{Counted}
 use Rattle.zs_term.specs.declared.term.Test.{Test}
 use Rattle.zs_term.specs.declared.term.Pick.{Pick}
 use Rattle.zs_term.specs.declared.term.Func.{Func}
-use Rattle.zs_term.specs.Schedule.{Schedule, leaf, two, over, Leaf, plain, counted, exponential, forever, Pairing, both, either, and_then, Modifier, while_input, while_output, collect_all, mapped, reset_when}
+use Rattle.zs_term.specs.Schedule.{Schedule, leaf, two, over, Leaf, plain, counted, exponential}
+use Rattle.zs_term.specs.Schedule.{forever, Pairing, both, either, and_then, Modifier, while_input}
+use Rattle.zs_term.specs.Schedule.{while_output, collect_all, mapped, reset_when}
 
 -- a leaf as its word and numbers
 abbrev LeafParts : Type 0
@@ -34,7 +36,8 @@ leaf_back (counted w n) = refl
 leaf_back (exponential base factor) = refl
 
 abbrev leaf_code : Coded Leaf
-leaf_code = code_by LeafParts (coded⊎ plain_row.the_row.coded (coded⊎ (coded× counted_row.the_row.coded coded_ℕ) (coded× coded_ℕ coded_ℕ))) leaf_parts leaf_of_parts leaf_back
+leaf_code = code_by LeafParts (coded⊎ plain_row.the_row.coded (coded⊎ (coded×
+    counted_row.the_row.coded coded_ℕ) (coded× coded_ℕ coded_ℕ))) leaf_parts leaf_of_parts leaf_back
 
 -- an operator as two truth values
 abbrev pairing_parts : Pairing → Bool × Bool
@@ -53,7 +56,8 @@ pairing_back either = refl
 pairing_back and_then = refl
 
 abbrev pairing_code : Coded Pairing
-pairing_code = code_by (Bool × Bool) (coded× coded_bool coded_bool) pairing_parts pairing_of_parts pairing_back
+pairing_code =
+    code_by (Bool × Bool) (coded× coded_bool coded_bool) pairing_parts pairing_of_parts pairing_back
 
 -- a modifier as what it reads; a truth value for two that read the same
 abbrev ModifierParts : Type 0
@@ -82,7 +86,8 @@ modifier_back collect_all = refl
 
 abbrev modifier_code : Coded Modifier
 modifier_code =
-    code_by ModifierParts (coded⊎ test_row.the_row.coded (coded⊎ (coded× coded_bool (coded× pick_row.the_row.coded test_row.the_row.coded)) (coded⊎ func_row.the_row.coded coded_bool)))
+    code_by ModifierParts (coded⊎ test_row.the_row.coded (coded⊎ (coded× coded_bool (coded×
+    pick_row.the_row.coded test_row.the_row.coded)) (coded⊎ func_row.the_row.coded coded_bool)))
     modifier_parts modifier_of_parts modifier_back
 
 -- a leaf, an operator or a modifier
@@ -106,11 +111,15 @@ built (inr (inl o) ∷ words) (b ∷ a ∷ stack) = built words (two o a b ∷ s
 built (inr (inr m) ∷ words) [] = leaf forever
 built (inr (inr m) ∷ words) (s ∷ stack) = built words (over s m ∷ stack)
 
-pub built-postfix : (s : Schedule) (words : List Word) (stack : List Schedule) → built (postfix s words) stack ≡ built words (s ∷ stack)
+pub built-postfix : (s : Schedule) (words : List Word) (stack : List Schedule)
+    → built (postfix s words) stack ≡ built words (s ∷ stack)
 built-postfix (leaf l) words stack = refl
-built-postfix (two o a b) words stack = built-postfix a (postfix b (inr (inl o) ∷ words)) stack ∙ built-postfix b (inr (inl o) ∷ words) (a ∷ stack)
+built-postfix (two o a b) words stack = built-postfix a (postfix b (inr (inl o) ∷ words)) stack
+    ∙ built-postfix b (inr (inl o) ∷ words) (a ∷ stack)
 built-postfix (over s m) words stack = built-postfix s (inr (inr m) ∷ words) stack
 
 -- the code of a schedule
 abbrev pub schedule_code : Coded Schedule
-schedule_code = code_by (List Word) (coded_list (coded⊎ leaf_code (coded⊎ pairing_code modifier_code))) (λ s. postfix s []) (λ words. built words []) (λ s. built-postfix s [] [])
+schedule_code =
+    code_by (List Word) (coded_list (coded⊎ leaf_code (coded⊎ pairing_code modifier_code)))
+    (λ s. postfix s []) (λ words. built words []) (λ s. built-postfix s [] [])

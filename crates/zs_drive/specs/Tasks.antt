@@ -1,5 +1,6 @@
 -- What contracts know about a task, and what a poll does to it.
-use Rattle.std.specs.Prelude.{◌≡◌, ℕ, ◌≤◌, ◌<◌, ◌⊎◌, Bool, false, true, List, [], ◌∷◌, ◌++◌, Option, Some, None, Result, Ok, Err, IsSomeAnd, nat_lt, if◌then◌else◌}
+use Rattle.std.specs.Prelude.{◌≡◌, ℕ, ◌≤◌, ◌<◌, ◌⊎◌, Bool, false, true, List, [], ◌∷◌, ◌++◌, Option}
+use Rattle.std.specs.Prelude.{Some, None, Result, Ok, Err, IsSomeAnd, nat_lt, if◌then◌else◌}
 use Rattle.futures.specs.declared.task.Poll.{Poll}
 use Rattle.futures.specs.declared.task.Poll.TheVariants.{Ready, Pending}
 use Rattle.zs_effect.specs.declared.script.Outcome.{Outcome}
@@ -20,7 +21,8 @@ pub record TaskValue : Type 0 where
 
 -- a task that was not polled and is unbroken, at moment 0
 abbrev pub new_task : ℕ → JobRecord → Keeping → TaskValue
-new_task number job keeps = record { number = number; job = job; keeps = keeps; moments = []; seen = 0; broken = false }
+new_task number job keeps =
+    record { number = number; job = job; keeps = keeps; moments = []; seen = 0; broken = false }
 
 -- the timeline of a job after polls at these moments: that on the clock that ticks at them
 abbrev pub timeline_at : JobRecord → List ℕ → Timeline
@@ -41,7 +43,8 @@ IsNotYetDue task = IsSomeAnd (current_timeline task).due (λ due. task.seen < du
 -- a task after a poll, given its due moment
 abbrev pub polled_when : TaskValue → Option ℕ → TaskValue
 polled_when task None = task
-polled_when task (Some due) = if nat_lt task.seen due then task else record task { moments = task.moments ++ task.seen ∷ [] }
+polled_when task (Some due) = if nat_lt task.seen due then task
+    else record task { moments = task.moments ++ task.seen ∷ [] }
 
 -- A poll at or after the due moment adds the moment seen. Any other poll changes nothing.
 abbrev pub polled : TaskValue → TaskValue
@@ -60,7 +63,8 @@ reply_of (Some ending) = Ready (Ok ending)
 
 -- an unbroken task was polled, with this result
 abbrev pub WasPolled : TaskValue → TaskValue → Poll (Result Ending DriveFault) → Type 0
-WasPolled old new result = (old.broken ≡ false) × (new ≡ polled old) × (result ≡ reply_of (current_timeline new).ending)
+WasPolled old new result =
+    (old.broken ≡ false) × (new ≡ polled old) × (result ≡ reply_of (current_timeline new).ending)
 
 -- A task that was broken or due is now broken, and otherwise unchanged.
 abbrev pub Breaks : TaskValue → TaskValue → Type 0

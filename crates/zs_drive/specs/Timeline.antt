@@ -26,7 +26,8 @@ pub record Timeline : Type 0 where
 
 -- an attempt that ended
 abbrev pub ended_attempt : ℕ → ℕ → Outcome → Option Answer → AttemptedValue
-ended_attempt s e outcome step = record { begun = s; ended = Some (record { at = e; outcome = outcome; step = step }) }
+ended_attempt s e outcome step =
+    record { begun = s; ended = Some (record { at = e; outcome = outcome; step = step }) }
 
 -- no attempt yet; x is the due moment
 abbrev pub waiting : ℕ → Timeline
@@ -34,7 +35,8 @@ waiting x = record { attempts = []; due = Some x; ending = None }
 
 -- an attempt that began at s is running; w, its end, is the due moment
 abbrev pub running : ℕ → ℕ → Timeline
-running s w = record { attempts = record { begun = s; ended = None } ∷ []; due = Some w; ending = None }
+running s w =
+    record { attempts = record { begun = s; ended = None } ∷ []; due = Some w; ending = None }
 
 -- the last attempt, with the ending
 abbrev pub over : AttemptedValue → Ending → Timeline
@@ -42,7 +44,8 @@ over attempt ending = record { attempts = attempt ∷ []; due = None; ending = S
 
 -- one attempt, and then the rest
 abbrev pub before : AttemptedValue → Timeline → Timeline
-before attempt rest = record { attempts = attempt ∷ rest.attempts; due = rest.due; ending = rest.ending }
+before attempt rest =
+    record { attempts = attempt ∷ rest.attempts; due = rest.due; ending = rest.ending }
 
 module _ (job : JobRecord) where
   -- the script's entry for the attempt after history h
@@ -55,22 +58,28 @@ module _ (job : JobRecord) where
   -- The schedule returned this for history h. The next attempt begins at the first tick at or after
   -- both x and e. That is e itself if x <= e, since e is a tick. (`BeginsOn` of `DriverRules` has
   -- the two cases separately.)
-  unfoldable pub by_answer : (History → ℕ → Timeline) → History → ℕ → ℕ → Outcome → Output → Decision → Timeline
-  by_answer rest h s e outcome output Stop = over (ended_attempt s e outcome (Some (answer output Stop))) (ending_by_schedule job.mode outcome)
-  by_answer rest h s e outcome output (Next x) = before (ended_attempt s e outcome (Some (answer output (Next x)))) (rest h (max x e))
+  unfoldable pub by_answer : (History → ℕ → Timeline) → History
+      → ℕ → ℕ → Outcome → Output → Decision → Timeline
+  by_answer rest h s e outcome output Stop = over
+      (ended_attempt s e outcome (Some (answer output Stop))) (ending_by_schedule job.mode outcome)
+  by_answer rest h s e outcome output (Next x) =
+      before (ended_attempt s e outcome (Some (answer output (Next x)))) (rest h (max x e))
 
   -- the attempt after history h ended with this outcome, which may itself end the job
-  unfoldable pub by_outcome : (History → ℕ → Timeline) → History → ℕ → ℕ → Outcome → Option Ending → Timeline
+  unfoldable pub by_outcome : (History → ℕ → Timeline)
+      → History → ℕ → ℕ → Outcome → Option Ending → Timeline
   by_outcome rest h s e outcome (Some ending) = over (ended_attempt s e outcome None) ending
   by_outcome rest h s e outcome None =
       let longer = (e, number_of outcome) ∷ h in
-      let answered = answer_of job.schedule longer in by_answer rest longer s e outcome answered.output answered.decision
+      let answered = answer_of job.schedule longer in
+      by_answer rest longer s e outcome answered.output answered.decision
 
   -- the attempt after history h is due to end at w; the option is the tick at or after w
   unfoldable pub from_wait : (History → ℕ → Timeline) → History → ℕ → ℕ → Option ℕ → Timeline
   from_wait rest h s w None = running s w
   from_wait rest h s w (Some e) =
-      let outcome = (beat_after h).outcome in by_outcome rest h s e outcome (ending_by_outcome job.mode outcome)
+      let outcome = (beat_after h).outcome in
+      by_outcome rest h s e outcome (ending_by_outcome job.mode outcome)
 
   -- the attempt after history h is due to begin at x; the option is the tick at or after x
   unfoldable pub from_begin : (History → ℕ → Timeline) → List ℕ → History → ℕ → Option ℕ → Timeline

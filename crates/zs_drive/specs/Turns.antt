@@ -1,5 +1,6 @@
 -- What one poll does to the fields of a task.
-use Rattle.std.specs.Prelude.{◌≡◌, ℕ, ◌+◌, ◌≤◌, ◌<◌, List, [], ◌∷◌, ◌++◌, map, Option, Some, None, Result, OnOk, OnErr, IsSomeAnd, ⊤}
+use Rattle.std.specs.Prelude.{◌≡◌, ℕ, ◌+◌, ◌≤◌, ◌<◌, List, [], ◌∷◌, ◌++◌, map, Option, Some, None}
+use Rattle.std.specs.Prelude.{Result, OnOk, OnErr, IsSomeAnd, ⊤}
 use Rattle.zs_term.specs.Saturating.{saturated}
 use Rattle.zs_effect.specs.declared.script.Beat.{Beat}
 use Rattle.zs_effect.specs.declared.script.Outcome.{Outcome}
@@ -24,7 +25,8 @@ use Rattle.zs_drive.specs.Timeline.{ended_attempt, number_of, ending_by_outcome}
 use Rattle.zs_drive.specs.DriverRules.{history_after}
 use Rattle.zs_drive.specs.Log.{IsLog, Tells, keeping_of}
 use Rattle.zs_drive.specs.Recorded.{AllContinued, runs}
-use Rattle.zs_drive.specs.Progress.{due_of, ending_of, job_in, attempts_of, moments_in, IsProgress, HasState}
+use Rattle.zs_drive.specs.Progress.{due_of, ending_of, job_in, attempts_of, moments_in, IsProgress}
+use Rattle.zs_drive.specs.Progress.{HasState}
 
 -- the result of the schedule's last step: the next attempt is due at this moment
 abbrev pub goes_on : Compiled → ℕ → Option Answer
@@ -32,19 +34,25 @@ goes_on schedule next = Some (answer (compiled_output schedule) (Next next))
 
 -- the last of the records ran, and now has this end
 abbrev pub HasEnd : List Attempted → List Attempted → Ended → Type 0
-HasEnd old new ended = (others : List AttemptedValue) (s : ℕ) → map attempted_of old ≡ others ++ runs s ∷ [] → map attempted_of new ≡ others ++ record { begun = s; ended = ended_of (Some ended) } ∷ []
+HasEnd old new ended = (others : List AttemptedValue) (s : ℕ)
+    → map attempted_of old ≡ others ++ runs s ∷ []
+    → map attempted_of new ≡ others ++ record { begun = s; ended = ended_of (Some ended) } ∷ []
 
 -- the last attempt, which ran, has ended in this way, and is stored as lines
 abbrev pub TellsLast : Told → Told → ℕ → Outcome → Option Answer → Type 0
-TellsLast old new e outcome step = (s : ℕ) → old.last ≡ Some (record { begun = s; ended = None }) → Tells old new (ended_attempt s e outcome step)
+TellsLast old new e outcome step = (s : ℕ) → old.last ≡ Some (record { begun = s; ended = None })
+    → Tells old new (ended_attempt s e outcome step)
 
 -- An attempt begins at this moment. The schedule continued after each of those before it.
 abbrev pub BeginsNext : Log → Log → ℕ → Type 0
-BeginsNext old new begun = (attempts : List AttemptedValue) → AllContinued attempts → IsLog old attempts → IsLog new (attempts ++ runs begun ∷ [])
+BeginsNext old new begun = (attempts : List AttemptedValue) → AllContinued attempts
+    → IsLog old attempts → IsLog new (attempts ++ runs begun ∷ [])
 
 -- The last attempt of the log, which ran, has ended in this way, and these attempts follow it.
 abbrev pub EndsLast : Log → Log → ℕ → Outcome → Option Answer → List AttemptedValue → Type 0
-EndsLast old new e outcome step more = (others : List AttemptedValue) (s : ℕ) → AllContinued others → IsLog old (others ++ runs s ∷ []) → IsLog new (others ++ ended_attempt s e outcome step ∷ more)
+EndsLast old new e outcome step more = (others : List AttemptedValue) (s : ℕ)
+    → AllContinued others → IsLog old (others ++ runs s ∷ [])
+    → IsLog new (others ++ ended_attempt s e outcome step ∷ more)
 
 -- The last attempt of a task has ended in this way at the moment seen, and these follow it.
 abbrev pub HasEnded : Progress → Progress → Outcome → Option Answer → List AttemptedValue → Type 0
@@ -81,11 +89,13 @@ HasRunTo seen outcome (Over ending) = ⊥
 
 -- The state represents a history with one more step, if it represented the history before that.
 abbrev pub StandsAfter : Compiled → Compiled → ℕ → Outcome → Type 0
-StandsAfter old new seen outcome = (h : History) → StandsFor old h → StandsFor new ((seen, number_of outcome) ∷ h)
+StandsAfter old new seen outcome = (h : History) → StandsFor old h
+    → StandsFor new ((seen, number_of outcome) ∷ h)
 
 -- The schedule has decided this at that step.
 abbrev pub HasDecided : Compiled → Compiled → ℕ → Outcome → Decision → Type 0
-HasDecided old new seen outcome decision = (h : History) → StandsFor old h → answer (compiled_output new) decision ≡ answer_of (compiled_schedule old) ((seen, number_of outcome) ∷ h)
+HasDecided old new seen outcome decision = (h : History) → StandsFor old h → answer (compiled_output
+    new) decision ≡ answer_of (compiled_schedule old) ((seen, number_of outcome) ∷ h)
 
 -- the history of the attempts and of the end of the one that has just ended
 abbrev pub ended_history : Progress → Outcome → History
@@ -97,7 +107,8 @@ WasAsked p outcome = StandsFor p.schedule (ended_history p outcome)
 
 -- this is what the schedule decides for it
 abbrev pub IsDecided : Progress → Outcome → Decision → Type 0
-IsDecided p outcome decision = answer (compiled_output p.schedule) decision ≡ answer_of (compiled_schedule p.schedule) (ended_history p outcome)
+IsDecided p outcome decision = answer (compiled_output p.schedule) decision
+    ≡ answer_of (compiled_schedule p.schedule) (ended_history p outcome)
 
 -- the job is over
 abbrev pub IsOver : Phase → Type 0

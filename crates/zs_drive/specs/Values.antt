@@ -22,7 +22,13 @@ pub record JobRecord : Type 0 where
 
 -- the record of a job
 abbrev pub job_record : Job → JobRecord
-job_record job = record { name = string_bytes job.name; mode = job.mode; schedule = schedule_of job.schedule; start = job.start; script = job.script }
+job_record job = record {
+  name = string_bytes job.name;
+  mode = job.mode;
+  schedule = schedule_of job.schedule;
+  start = job.start;
+  script = job.script;
+}
 
 -- the end of an attempt: when, how, and the schedule's result if it was stepped
 pub record EndedValue : Type 0 where
@@ -43,7 +49,8 @@ step_of (Some step) = Some (answer (output_of step.0) step.1)
 -- how an attempt ended, if it has
 abbrev pub ended_of : Option Ended → Option EndedValue
 ended_of None = None
-ended_of (Some ended) = Some (record { at = ended.at; outcome = ended.outcome; step = step_of ended.step })
+ended_of (Some ended) =
+    Some (record { at = ended.at; outcome = ended.outcome; step = step_of ended.step })
 
 -- the attempt that a record stores
 abbrev pub attempted_of : Attempted → AttemptedValue

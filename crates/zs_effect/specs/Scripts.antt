@@ -21,7 +21,8 @@ pub record IsScript (beats : List Beat) : Type 0 where
 abbrev pub IsFirstFault : List Beat → ScriptFault → Type 0
 IsFirstFault beats Empty = beats ≡ []
 IsFirstFault beats TooLong = max_beats < length beats
-IsFirstFault beats ZeroMs = (1 ≤ length beats) × (length beats ≤ max_beats) × Any (λ beat. beat.ms ≡ 0) beats
+IsFirstFault beats ZeroMs =
+    (1 ≤ length beats) × (length beats ≤ max_beats) × Any (λ beat. beat.ms ≡ 0) beats
 
 -- the default of `entry_at` for an empty list
 abbrev pub no_entry : Beat

@@ -25,8 +25,10 @@ pub record IsAnswer (clock : Ticks) (jobs : List JobRecord) (answer : Answer) : 
   pub numbered : map (λ task. task.number) answer.tasks.items ≡ moments_from 0 (length jobs)
   pub same_jobs : map (λ task. task.job) answer.tasks.items ≡ jobs
   pub whole : All (λ (task : TaskValue). task.broken ≡ false) answer.tasks.items
-  pub timelines : map current_timeline answer.tasks.items ≡ map (λ job. timeline_of job (ticks_of clock)) jobs
-  pub moments : map (λ task. task.moments) answer.tasks.items ≡ map (poll_moments_of (ticks_of clock)) jobs
+  pub timelines : map current_timeline answer.tasks.items
+      ≡ map (λ job. timeline_of job (ticks_of clock)) jobs
+  pub moments : map (λ task. task.moments) answer.tasks.items
+      ≡ map (poll_moments_of (ticks_of clock)) jobs
   pub polls : answer.polls ≡ poll_count_of (ticks_of clock) jobs
   pub last : answer.horizon ≡ horizon clock
 

@@ -13,7 +13,8 @@ use Rattle.zs_engine.specs.Rounds.{Waits, Begins, KeptJob, jobs_in}
 
 -- The clock is valid and its horizon is `end`, one round may poll all of the jobs, and only this
 -- seat counts.
-pub record Runs (clock : Ticks) (end : ℕ) (jobs : List KeptJob) (tally : TableId) (seat : Seating) : Type 0 where
+pub record Runs (clock : Ticks) (end : ℕ) (jobs : List KeptJob)
+    (tally : TableId) (seat : Seating) : Type 0 where
   pub lawful : IsClock clock
   pub is_horizon : end ≡ horizon clock
   pub few : length jobs ≤ max_tasks
@@ -34,7 +35,8 @@ pub record IsNew (engine : Engine) : Type 0 where
 -- as a round begins: these jobs are due at `now`
 pub record IsDueAt (now : ℕ) (numbers : List ℕ) (engine : Engine) : Type 0 where
   pub runs : Runs engine.clock engine.horizon (jobs_in engine.slots.items) engine.tally engine.seat
-  pub begins : Begins (ticks_of engine.clock) engine.slots.items engine.agenda engine.seat.count now numbers
+  pub begins : Begins
+      (ticks_of engine.clock) engine.slots.items engine.agenda engine.seat.count now numbers
   pub in_order : IsStrictlySortedBy nat_cmp numbers
 
 -- the clock and the jobs are unchanged

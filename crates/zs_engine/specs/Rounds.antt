@@ -1,7 +1,9 @@
 -- The invariant of the rounds of a run. Between two rounds each task has the timeline of its job
 -- alone on the ticks so far. It has a timer exactly if there is a tick at or after its due moment.
 -- During a round this is true of all tasks but those that are still to be polled.
-use Rattle.std.specs.Prelude.{◌≡◌, ◌≤◌, ◌+◌, ◌++◌, ℕ, true, false, if◌then◌else◌, List, Option, Some, None, length, slice_get, map, flat_map, option_to_list, option_map, option_and_then}
+use Rattle.std.specs.Prelude.{◌≡◌, ◌≤◌, ◌+◌, ◌++◌, ℕ, true, false, if◌then◌else◌, List, Option}
+use Rattle.std.specs.Prelude.{Some, None, length, slice_get, map, flat_map, option_to_list}
+use Rattle.std.specs.Prelude.{option_map, option_and_then}
 use Rattle.std.specs.FinMap.{get, insert}
 use Rattle.std.specs.List.{sum_by}
 use Rattle.zs_agenda.specs.Ticks.{Ticks}
@@ -41,7 +43,8 @@ next_tick_of clock task = next_of (ticks_of clock) (current_timeline task).due
 
 -- the tick at which the task in a slot is due, if there is one
 abbrev pub next_in : List ℕ → Option (Option TaskValue) → Option ℕ
-next_in ticks slot = option_and_then (option_and_then (λ task. next_of ticks (current_timeline task).due)) slot
+next_in ticks slot =
+    option_and_then (option_and_then (λ task. next_of ticks (current_timeline task).due)) slot
 
 -- the number of due polls of a slot's task
 abbrev pub polls_of : Option TaskValue → ℕ
@@ -54,14 +57,18 @@ polls_in slots = sum_by polls_of slots
 
 -- Each task is in its slot and up to date, and `count` polls were done. All tasks but those in
 -- `left` wait for their next due polls. There are no timers but theirs.
-pub record Waits (ticks : List ℕ) (slots : Slots) (timers : Timers) (count : ℕ) (left : List ℕ) : Type 0 where
+pub record Waits (ticks : List ℕ) (slots : Slots)
+    (timers : Timers) (count : ℕ) (left : List ℕ) : Type 0 where
   pub filled : (tasks : List TaskValue) × (slots ≡ map (λ task. Some task) tasks)
-  pub each : (i : ℕ) (task : TaskValue) → slice_get slots i ≡ Some (Some task) → KeepsUp ticks task × (task.number ≡ i)
-  pub timer : (i : ℕ) → get timers.moments i ≡ (if has i left then None else next_in ticks (slice_get slots i))
+  pub each : (i : ℕ) (task : TaskValue) → slice_get slots i ≡ Some (Some task)
+      → KeepsUp ticks task × (task.number ≡ i)
+  pub timer : (i : ℕ)
+      → get timers.moments i ≡ (if has i left then None else next_in ticks (slice_get slots i))
   pub counted : count ≡ polls_in slots
 
 -- in the round at `now` these tasks are due, and are still to be polled
-pub record Begins (ticks : List ℕ) (slots : Slots) (timers : Timers) (count now : ℕ) (left : List ℕ) : Type 0 where
+pub record Begins (ticks : List ℕ) (slots : Slots)
+    (timers : Timers) (count now : ℕ) (left : List ℕ) : Type 0 where
   pub waits : Waits ticks slots timers count left
   pub is_taken : timers.last_taken ≡ Some now
   pub due : (i : ℕ) → has i left ≡ true → next_in ticks (slice_get slots i) ≡ Some now

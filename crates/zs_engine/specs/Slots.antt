@@ -1,6 +1,7 @@
 -- The slots of a run: each job's task has a separate slot, which is empty while several workers
 -- poll the task.
-use Rattle.std.specs.Prelude.{◌≡◌, ◌==◌, ℕ, Bool, false, List, [], ◌∷◌, Option, Some, None, slice_get, slice_set, map}
+use Rattle.std.specs.Prelude.{◌≡◌, ◌==◌, ℕ, Bool, false, List, [], ◌∷◌, Option, Some, None}
+use Rattle.std.specs.Prelude.{slice_get, slice_set, map}
 use Rattle.std.specs.List.{list_any}
 use Rattle.zs_drive.specs.Tasks.{TaskValue}
 

@@ -32,4 +32,5 @@ SameTicks = (clock : Ticks) (due : ℕ) → first_tick clock due ≡ first_tick_
 
 -- the list of a clock's ticks rises strictly, and no tick is after the clock's horizon
 abbrev pub TicksRise : Type 0
-TicksRise = (clock : Ticks) → IsClock clock → AreTicks (ticks_of clock) × AllBefore (ticks_of clock) (horizon clock + 1)
+TicksRise = (clock : Ticks) → IsClock clock
+    → AreTicks (ticks_of clock) × AllBefore (ticks_of clock) (horizon clock + 1)

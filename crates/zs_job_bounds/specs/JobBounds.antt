@@ -20,12 +20,14 @@ use Rattle.zs_job_bounds.specs.Histories.{HasInputs, IsEndAfter, history_at, IsH
 
 -- a law that is true of every job with a valid script, and of every clock
 abbrev pub OnEachClock : (JobRecord → List ℕ → Type 0) → Type 0
-OnEachClock Law = (job : JobRecord) (ticks : List ℕ) → IsScript job.script → HasInputs job.script → AreTicks ticks → Law job ticks
+OnEachClock Law = (job : JobRecord) (ticks : List ℕ) → IsScript job.script
+    → HasInputs job.script → AreTicks ticks → Law job ticks
 
 -- What a step at an end returns is the schedule's result on the history there.
 abbrev pub StepsOnHistories : JobRecord → List ℕ → Type 0
 StepsOnHistories job ticks = (earlier : List AttemptedValue) (end : EndedValue) (step : Answer)
-    → IsEndAfter (timeline_of job ticks).attempts earlier end → end.step ≡ Some step → step ≡ answer_of job.schedule (history_at earlier end)
+    → IsEndAfter (timeline_of job ticks).attempts earlier end
+    → end.step ≡ Some step → step ≡ answer_of job.schedule (history_at earlier end)
 
 -- ---- how long attempts take
 
@@ -77,37 +79,45 @@ pub record IsWithin (b : Bounds) (attempts : List AttemptedValue) : Type 0 where
   pub most : (k : ℕ) → b.most ≡ Some k → length attempts ≤ k
   -- the schedule stops at the end of the attempt `least`, or of a later one
   pub least : (earlier : List AttemptedValue) (end : EndedValue) (output : Output)
-      → IsEndAfter attempts earlier end → end.step ≡ Some (answer output Stop) → b.least ≤ length earlier + 1
+      → IsEndAfter attempts earlier end
+      → end.step ≡ Some (answer output Stop) → b.least ≤ length earlier + 1
   -- after each of the first `seen` attempts, the next one is due at most `longest` later
   pub longest : (earlier : List AttemptedValue) (end : EndedValue) (output : Output) (x : ℕ)
-      → IsEndAfter attempts earlier end → end.step ≡ Some (answer output (Next x)) → length earlier + 1 ≤ b.seen → x ≤ end.at + b.longest
+      → IsEndAfter attempts earlier end → end.step ≡ Some (answer output (Next x))
+      → length earlier + 1 ≤ b.seen → x ≤ end.at + b.longest
   -- with a total, all waits are no longer in all
   pub total : (t : ℕ) → b.total ≡ Some t → all_waits attempts ≤ t
 
 -- These attempts of a job that starts at `start` are over in time, if there is a longest run.
-pub record EndsInTime (b : Bounds) (ticks : List ℕ) (start : ℕ) (attempts : List AttemptedValue) (ending : Option Ending) : Type 0 where
+pub record EndsInTime (b : Bounds) (ticks : List ℕ) (start : ℕ)
+    (attempts : List AttemptedValue) (ending : Option Ending) : Type 0 where
   -- no attempt ends later than the longest run after the start
   pub ends : (r : ℕ) → b.longest_run ≡ Some r → (earlier : List AttemptedValue) (end : EndedValue)
       → IsEndAfter attempts earlier end → end.at ≤ start + r
   -- and if the clock has a tick at that moment or later, the job has ended
-  pub over : (r t : ℕ) → b.longest_run ≡ Some r → first_tick_from ticks (start + r) ≡ Some t → (e : Ending) × (ending ≡ Some e)
+  pub over : (r t : ℕ) → b.longest_run ≡ Some r
+      → first_tick_from ticks (start + r) ≡ Some t → (e : Ending) × (ending ≡ Some e)
 
 -- A job's attempts are within all bounds that hold for its schedule.
 abbrev pub PromisedBoundsHold : Durations → JobRecord → List ℕ → Type 0
-PromisedBoundsHold d job ticks = (b : Bounds) → Promises job.schedule d b → IsWithin b (timeline_of job ticks).attempts
+PromisedBoundsHold d job ticks = (b : Bounds) → Promises job.schedule d b
+    → IsWithin b (timeline_of job ticks).attempts
 
 -- They are within the bounds that `zs_bounds::bounds` computes for its schedule, from any number of
 -- steps. The factors of a `Checked` schedule are at least 1.
 abbrev pub ComputedBoundsHold : Durations → JobRecord → List ℕ → Type 0
-ComputedBoundsHold d job ticks = (steps : ℕ) → has_factors job.schedule ≡ true → IsWithin (bounds_of job.schedule d steps) (timeline_of job ticks).attempts
+ComputedBoundsHold d job ticks = (steps : ℕ) → has_factors job.schedule ≡ true
+    → IsWithin (bounds_of job.schedule d steps) (timeline_of job ticks).attempts
 
 -- A job ends in time, by all bounds that hold for its schedule.
 abbrev pub PromisedRunHolds : Durations → JobRecord → List ℕ → Type 0
 PromisedRunHolds d job ticks =
-    (b : Bounds) → Promises job.schedule d b → EndsInTime b ticks job.start (timeline_of job ticks).attempts (timeline_of job ticks).ending
+    (b : Bounds) → Promises job.schedule d b
+    → EndsInTime b ticks job.start (timeline_of job ticks).attempts (timeline_of job ticks).ending
 
 -- It does so by the bounds that `zs_bounds::bounds` computes.
 abbrev pub ComputedRunHolds : Durations → JobRecord → List ℕ → Type 0
 ComputedRunHolds d job ticks =
     (steps : ℕ) → has_factors job.schedule ≡ true
-    → EndsInTime (bounds_of job.schedule d steps) ticks job.start (timeline_of job ticks).attempts (timeline_of job ticks).ending
+    → EndsInTime (bounds_of job.schedule d steps) ticks job.start
+    (timeline_of job ticks).attempts (timeline_of job ticks).ending

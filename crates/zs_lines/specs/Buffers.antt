@@ -1,5 +1,6 @@
 -- Bytes that were read and not used yet, and the lines that come next.
-use Rattle.std.specs.Prelude.{◌≡◌, ◌<◌, ℕ, List, [], ◌∷◌, ◌++◌, ◌==◌, length, Bool, true, false, ⊤, Option, None, Some, IfSome, Result, Ok, Err}
+use Rattle.std.specs.Prelude.{◌≡◌, ◌<◌, ℕ, List, [], ◌∷◌, ◌++◌, ◌==◌, length, Bool, true, false, ⊤}
+use Rattle.std.specs.Prelude.{Option, None, Some, IfSome, Result, Ok, Err}
 use Rattle.std.specs.Io.KnownBytes.{IsAtEnd}
 use Rattle.zs_lines.specs.Lines.{lines_of}
 use Rattle.zs_lines.specs.declared.buffer.LineFault.{LineFault}
@@ -26,7 +27,8 @@ BeginsWith known lines = IfSome known (λ xs. (rest : List (List ℕ)) × (lines
 
 -- What `next_line` returns: whether there is a line, and which; or that the next line has more
 -- bytes than the limit.
-abbrev pub LineRead : ℕ → Result Bool LineFault → Option (List ℕ) → Option (List ℕ) → List ℕ → Type 0
+abbrev pub LineRead : ℕ → Result Bool LineFault
+    → Option (List ℕ) → Option (List ℕ) → List ℕ → Type 0
 LineRead limit (Ok true) old new line = Took old new (line ∷ [])
 LineRead limit (Ok false) old new line = Took old new [] × IsAtEnd new
 LineRead limit (Err Read) old new line = ⊤

@@ -1,5 +1,6 @@
 -- How the due tasks of one moment are cut into batches.
-use Rattle.std.specs.Prelude.{◌≡◌, ◌≤◌, ◌-◌, length, take, ℕ, List, All, Some, slice_get, flat_map, IsPermutation}
+use Rattle.std.specs.Prelude.{◌≡◌, ◌≤◌, ◌-◌, length, take, ℕ, List, All, Some, slice_get, flat_map}
+use Rattle.std.specs.Prelude.{IsPermutation}
 use Rattle.std.specs.List.{range_with_len}
 use Rattle.zs_drive.specs.Tasks.{TaskValue}
 use Rattle.zs_pool.specs.Limits.{max_workers, max_tasks}
@@ -40,4 +41,5 @@ IsFull grain b = length b.tasks ≡ grain
 
 -- each batch has 1 to `grain` tasks, and all but the last have `grain`
 abbrev pub AreCut : ℕ → List BatchValue → Type 0
-AreCut grain bs = All (λ b. (1 ≤ length b.tasks) × (length b.tasks ≤ grain)) bs × All (IsFull grain) (take (length bs - 1) bs)
+AreCut grain bs = All (λ b. (1 ≤ length b.tasks) × (length b.tasks ≤ grain)) bs
+    × All (IsFull grain) (take (length bs - 1) bs)

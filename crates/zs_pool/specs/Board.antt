@@ -1,5 +1,6 @@
 -- The rule of a board: batches are claimed from the front, each once; the rest is queued in order.
-use Rattle.std.specs.Prelude.{◌≡◌, ℕ, ◌<◌, ◌≤◌, ◌+◌, ◌-◌, ◌||◌, List, [], ◌∷◌, ◌++◌, length, drop, Some, slice_get, All, Bool, true, false}
+use Rattle.std.specs.Prelude.{◌≡◌, ℕ, ◌<◌, ◌≤◌, ◌+◌, ◌-◌, ◌||◌, List, [], ◌∷◌, ◌++◌, length, drop}
+use Rattle.std.specs.Prelude.{Some, slice_get, All, Bool, true, false}
 use Rattle.std.specs.List.{flat_map, sum_by}
 use Rattle.atomic_table.specs.Seated.{TableId}
 use Rattle.zs_pool.specs.Batches.{BatchValue, AreNumbered, IsEachOnce}
@@ -32,11 +33,13 @@ module _ {T : Type 0} where
 
   -- x was taken, as batch k: it is the k-th that was put, and after everything that the pass took
   abbrev pub Took : Claims T → T → Claims T → Type 0
-  Took v x w = (k : ℕ) × (w ≡ claims v.share v.batches (v.taken ++ k ∷ [])) × (slice_get v.batches k ≡ Some x) × All (λ j. j < k) v.taken × (v.share ≡ max_moment → k ≡ length v.taken)
+  Took v x w = (k : ℕ) × (w ≡ claims v.share v.batches (v.taken ++ k ∷ [])) × (slice_get v.batches k
+      ≡ Some x) × All (λ j. j < k) v.taken × (v.share ≡ max_moment → k ≡ length v.taken)
 
   -- what a pass with exclusive access knows: what is queued, and what it took
   abbrev pub IsRest : Claims T → List T → Type 0
-  IsRest v items = v.share ≡ max_moment → (length v.taken ≤ length v.batches) × (items ≡ drop (length v.taken) v.batches) × IsEachOnce (length v.taken) v.taken
+  IsRest v items = v.share ≡ max_moment → (length v.taken ≤ length v.batches)
+      × (items ≡ drop (length v.taken) v.batches) × IsEachOnce (length v.taken) v.taken
 
 -- the identity of a board
 pub record BoardId : Type 0 where
@@ -55,7 +58,8 @@ pub record Claimer : Type 0 where
 
 -- the pass with these parts
 abbrev pub claimer : BoardId → ℕ → List BatchValue → List ℕ → Bool → Claimer
-claimer board share batches taken none = record { board = board; share = share; batches = batches; taken = taken; none = none }
+claimer board share batches taken none =
+    record { board = board; share = share; batches = batches; taken = taken; none = none }
 
 -- a pass that claimed nothing so far
 abbrev pub fresh_claimer : BoardId → ℕ → List BatchValue → Claimer
@@ -71,12 +75,15 @@ new_claimer board p = claimer board 1 p.batches [] p.none
 
 -- two passes as one, which took what both took
 abbrev pub joined_claimer : BoardId → Claimer → Claimer → Claimer
-joined_claimer board p q = claimer board (p.share + q.share) p.batches (p.taken ++ q.taken) (p.none || q.none)
+joined_claimer board p q =
+    claimer board (p.share + q.share) p.batches (p.taken ++ q.taken) (p.none || q.none)
 
 -- The pass claimed the batch b: one of the board's, unchanged, and later than everything that the
 -- pass took. No claim of the pass had returned `None`.
 abbrev pub HasClaimed : BoardId → Claimer → BatchValue → Claimer → Type 0
-HasClaimed board before b after = (before.none ≡ false) × (slice_get before.batches b.number ≡ Some b) × All (λ k. k < b.number) before.taken × (after ≡ claimer board before.share before.batches (before.taken ++ b.number ∷ []) false)
+HasClaimed board before b after = (before.none ≡ false)
+    × (slice_get before.batches b.number ≡ Some b) × All (λ k. k < b.number) before.taken
+    × (after ≡ claimer board before.share before.batches (before.taken ++ b.number ∷ []) false)
 
 -- the pass took each batch once
 abbrev pub HasTakenAll : Claimer → Type 0

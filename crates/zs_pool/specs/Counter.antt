@@ -32,7 +32,8 @@ Added st me n now = now ≡ (counted me.0.share (me.0.count + 1) me.0.seen, me.1
 -- a step that reads n: at least n were counted, and a seat with exclusive access counted everything
 -- that it saw
 abbrev pub Looked : Step (Unit {0}) → Me (Unit {0}) Count → ℕ → Me (Unit {0}) Count → Type 0
-Looked st me n now = (me.0.share ≡ max_moment → me.0.seen ≤ me.0.count) × (now ≡ (counted me.0.share me.0.count (max me.0.seen n), me.1))
+Looked st me n now = (me.0.share ≡ max_moment → me.0.seen ≤ me.0.count)
+    × (now ≡ (counted me.0.share me.0.count (max me.0.seen n), me.1))
 
 -- a seat, as contracts know it
 pub record Counting : Type 0 where
@@ -43,7 +44,8 @@ pub record Counting : Type 0 where
 
 -- the seat with these parts
 abbrev pub counting : TableId → ℕ → ℕ → ℕ → Counting
-counting counter share count seen = record { counter = counter; share = share; count = count; seen = seen }
+counting counter share count seen =
+    record { counter = counter; share = share; count = count; seen = seen }
 
 -- the seat after another was split off
 abbrev pub split_counting : TableId → Counting → Counting
@@ -51,4 +53,5 @@ split_counting counter s = counting counter (s.share - 1) s.count s.seen
 
 -- two seats as one
 abbrev pub joined_counting : TableId → Counting → Counting → Counting
-joined_counting counter s t = counting counter (s.share + t.share) (s.count + t.count) (max s.seen t.seen)
+joined_counting counter s t =
+    counting counter (s.share + t.share) (s.count + t.count) (max s.seen t.seen)

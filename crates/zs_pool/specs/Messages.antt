@@ -1,5 +1,6 @@
 -- Polled batches, which workers hand in.
-use Rattle.std.specs.Prelude.{◌≡◌, ℕ, true, List, [], ◌∷◌, ◌++◌, ◌⊎◌, All, Option, Some, slice_get, map}
+use Rattle.std.specs.Prelude.{◌≡◌, ℕ, true, List, [], ◌∷◌, ◌++◌, ◌⊎◌, All, Option, Some, slice_get}
+use Rattle.std.specs.Prelude.{map}
 use Rattle.std.specs.List.{AllZip}
 use Rattle.zs_drive.specs.Tasks.{TaskValue}
 use Rattle.zs_pool.specs.Rounds.{IsPolled, polled_at}
@@ -14,7 +15,8 @@ pub record PolledValue : Type 0 where
 -- The task has seen the moment, and was polled then or is broken. A task's moments rise, so the
 -- last of them is the greatest.
 abbrev pub Saw : ℕ → TaskValue → Type 0
-Saw now task = (task.seen ≡ now) × ((task.broken ≡ true) ⊎ ((ms : List ℕ) × (task.moments ≡ ms ++ now ∷ [])))
+Saw now task =
+    (task.seen ≡ now) × ((task.broken ≡ true) ⊎ ((ms : List ℕ) × (task.moments ≡ ms ++ now ∷ [])))
 
 -- each of the tasks has seen the moment
 abbrev pub AllSaw : ℕ → List TaskValue → Type 0
@@ -26,7 +28,8 @@ HasBroken tasks = (k : ℕ) × (t : TaskValue) × (slice_get tasks k ≡ Some t)
 
 -- no poll ran out of memory: of whatever tasks these are the polls, they are as `after` has them
 abbrev pub AreWhole : List TaskValue → List TaskValue → Type 0
-AreWhole tasks after = (now : ℕ) (before : List TaskValue) → AllZip (IsPolled now) before tasks → after ≡ map (polled_at now) before
+AreWhole tasks after = (now : ℕ) (before : List TaskValue)
+    → AllZip (IsPolled now) before tasks → after ≡ map (polled_at now) before
 
 -- the message is the poll of the batch: the same number, and the same tasks in order, each polled
 pub record IsPollOf (now : ℕ) (b : BatchValue) (p : PolledValue) : Type 0 where
@@ -36,7 +39,8 @@ pub record IsPollOf (now : ℕ) (b : BatchValue) (p : PolledValue) : Type 0 wher
 
 -- the message is the poll of the batch that has its number
 abbrev pub IsPollAmong : ℕ → List BatchValue → PolledValue → Type 0
-IsPollAmong now batches p = (b : BatchValue) × (slice_get batches p.number ≡ Some b) × IsPollOf now b p
+IsPollAmong now batches p =
+    (b : BatchValue) × (slice_get batches p.number ≡ Some b) × IsPollOf now b p
 
 -- the slot contains the poll of the batch
 abbrev pub HasPoll : ℕ → BatchValue → Option PolledValue → Type 0

@@ -1,5 +1,6 @@
 -- What a thread of a round gets, and what it returns.
-use Rattle.std.specs.Prelude.{◌≡◌, ℕ, zero, suc, ◌+◌, ◌≤◌, length, true, false, List, [], ◌∷◌, ◌++◌, All, Result, IfOk, Vec, sum_by, IsPermutation}
+use Rattle.std.specs.Prelude.{◌≡◌, ℕ, zero, suc, ◌+◌, ◌≤◌, length, true, false, List, [], ◌∷◌, ◌++◌}
+use Rattle.std.specs.Prelude.{All, Result, IfOk, Vec, sum_by, IsPermutation}
 use Rattle.std.specs.Borrow.{Bor}
 use Rattle.std.specs.Global.{Global}
 use Rattle.std.specs.declared.alloc.AllocError.{AllocError}
@@ -20,11 +21,13 @@ Overflow = Result (Vec PolledValue Global) AllocError
 
 -- n tasks were polled and counted
 abbrev pub HasCounted : Seating → ℕ → Seating → Type 0
-HasCounted before n after = (after.tally ≡ before.tally) × (after.count ≡ before.count + n) × (after.allowance + n ≡ before.allowance)
+HasCounted before n after = (after.tally ≡ before.tally)
+    × (after.count ≡ before.count + n) × (after.allowance + n ≡ before.allowance)
 
 -- the seat counted nothing, and n of its allowance was split off
 abbrev pub HasLent : TableId → Seating → ℕ → Seating → Type 0
-HasLent tally before n after = (after.tally ≡ tally) × (after.count ≡ before.count) × (after.allowance + n ≡ before.allowance)
+HasLent tally before n after =
+    (after.tally ≡ tally) × (after.count ≡ before.count) × (after.allowance + n ≡ before.allowance)
 
 -- the number of tasks of batch k, or 0 if there is no such batch
 abbrev pub size_at : List BatchValue → ℕ → ℕ
@@ -41,7 +44,8 @@ abbrev pub Serves : ℕ → List BatchValue → List ℕ → List PolledValue �
 Serves now batches taken ps = All (IsPollAmong now batches) ps × IsPermutation taken (numbers_of ps)
 
 -- a message is handed in: it is put on the shelf, or stored beside it
-abbrev pub HandsIn : List PolledValue → List PolledValue → PolledValue → List PolledValue → List PolledValue → Type 0
+abbrev pub HandsIn : List PolledValue → List PolledValue
+    → PolledValue → List PolledValue → List PolledValue → Type 0
 HandsIn put kept m put' kept' = IsPermutation ((put ++ kept) ++ m ∷ []) (put' ++ kept')
 
 -- n times t
@@ -51,16 +55,26 @@ rooms (suc n) t = t + rooms n t
 
 -- the thread has taken nothing, put nothing, and not seen the board empty
 abbrev pub IsNew : List BatchValue → Rights → Type 0
-IsNew batches r = (r.board_pass.batches ≡ batches) × (r.board_pass.taken ≡ []) × (r.board_pass.none ≡ false) × (r.shelf_pass.put ≡ []) × (r.shelf_pass.taken ≡ [])
+IsNew batches r = (r.board_pass.batches ≡ batches) × (r.board_pass.taken ≡ [])
+    × (r.board_pass.none ≡ false) × (r.shelf_pass.put ≡ []) × (r.shelf_pass.taken ≡ [])
 
 module _ {G : Type 0} where
   -- what the threads of a round share: these parts
   abbrev pub sharing : Bor G → Bor BoardId → Bor TableId → Bor TableId → ℕ → ℕ → ℕ → Shared G
-  sharing gate board shelf tally moment tasks batches = record { gate = gate; board = board; shelf = shelf; tally = tally; moment = moment; tasks = tasks; batches = batches }
+  sharing gate board shelf tally moment tasks batches = record {
+    gate = gate;
+    board = board;
+    shelf = shelf;
+    tally = tally;
+    moment = moment;
+    tasks = tasks;
+    batches = batches;
+  }
 
   -- the passes are of the round's board and shelf, and the seat is of its tally
   abbrev pub IsOf : Shared G → Rights → Type 0
-  IsOf shared r = (r.board_pass.board ≡ shared.board.now) × (r.shelf_pass.shelf ≡ shared.shelf.now) × (r.seat.tally ≡ shared.tally.now)
+  IsOf shared r = (r.board_pass.board ≡ shared.board.now)
+      × (r.shelf_pass.shelf ≡ shared.shelf.now) × (r.seat.tally ≡ shared.tally.now)
 
   -- The rights with which the calling thread begins: exclusive access to board and shelf, and an
   -- allowance for it and its helpers, each of which may count all tasks.
@@ -93,8 +107,11 @@ module _ {G : Type 0} where
 -- shelf
 abbrev pub IsSame : Rights → Rights → Type 0
 IsSame r after =
-    ((after.board_pass.board ≡ r.board_pass.board) × (after.shelf_pass.shelf ≡ r.shelf_pass.shelf) × (after.seat.tally ≡ r.seat.tally))
-    × (after.board_pass.batches ≡ r.board_pass.batches) × (after.board_pass.share ≡ r.board_pass.share) × (after.shelf_pass.share ≡ r.shelf_pass.share) × (after.shelf_pass.taken ≡ r.shelf_pass.taken)
+    ((after.board_pass.board ≡ r.board_pass.board)
+    × (after.shelf_pass.shelf ≡ r.shelf_pass.shelf) × (after.seat.tally ≡ r.seat.tally))
+    × (after.board_pass.batches ≡ r.board_pass.batches)
+    × (after.board_pass.share ≡ r.board_pass.share) × (after.shelf_pass.share ≡ r.shelf_pass.share)
+    × (after.shelf_pass.taken ≡ r.shelf_pass.taken)
 
 -- the board was seen empty; everything claimed is polled, counted, and put on the shelf or stored
 -- beside it
@@ -102,5 +119,7 @@ abbrev pub HasServed : ℕ → Rights → Rights → Overflow → Type 0
 HasServed now r after overflow =
     IfOk overflow
     (λ ps.
-    Serves now r.board_pass.batches after.board_pass.taken (after.shelf_pass.put ++ ps.items) × (after.board_pass.none ≡ true)
-    × (after.seat.count ≡ r.seat.count + sizes r.board_pass.batches after.board_pass.taken) × (after.seat.allowance + sizes r.board_pass.batches after.board_pass.taken ≡ r.seat.allowance))
+    Serves now r.board_pass.batches after.board_pass.taken (after.shelf_pass.put ++ ps.items)
+    × (after.board_pass.none ≡ true)
+    × (after.seat.count ≡ r.seat.count + sizes r.board_pass.batches after.board_pass.taken)
+    × (after.seat.allowance + sizes r.board_pass.batches after.board_pass.taken ≡ r.seat.allowance))

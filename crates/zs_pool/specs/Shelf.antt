@@ -1,5 +1,6 @@
 -- The rule of a shelf: what was put is a permutation of what was taken and what is queued.
-use Rattle.std.specs.Prelude.{◌≡◌, ℕ, ◌+◌, ◌-◌, List, [], ◌++◌, length, flat_map, sum_by, IsPermutation}
+use Rattle.std.specs.Prelude.{◌≡◌, ℕ, ◌+◌, ◌-◌, List, [], ◌++◌, length, flat_map, sum_by}
+use Rattle.std.specs.Prelude.{IsPermutation}
 use Rattle.atomic_table.specs.Seated.{TableId}
 use Rattle.zs_pool.specs.Messages.{PolledValue}
 use Rattle.zs_pool.specs.Runs.{Every}

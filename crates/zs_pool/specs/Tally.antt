@@ -8,7 +8,8 @@ use Rattle.zs_pool.specs.declared.tally.rule.Tallied.{Tallied}
 
 -- a seat: its count, its allowance, the value seen last, and the amount noted for a split
 abbrev pub tallied : ℕ → ℕ → ℕ → ℕ → Tallied
-tallied count allowance seen noted = record { count = count; allowance = allowance; seen = seen; noted = noted }
+tallied count allowance seen noted =
+    record { count = count; allowance = allowance; seen = seen; noted = noted }
 
 -- the rule, over the word and the views of all seats
 pub record TallyRun (words : List ℕ) (views : List Tallied) : Type 0 where
@@ -25,11 +26,13 @@ KeepsTally key s = TallyRun s.words s.views
 
 -- a seat adds one
 abbrev pub Counted : Step (Unit {0}) → Me (Unit {0}) Tallied → ℕ → Me (Unit {0}) Tallied → Type 0
-Counted st me n now = now ≡ (tallied (me.0.count + 1) (me.0.allowance - 1) me.0.seen me.0.noted, me.1)
+Counted st me n now =
+    now ≡ (tallied (me.0.count + 1) (me.0.allowance - 1) me.0.seen me.0.noted, me.1)
 
 -- a seat reads the word n
 abbrev pub Loaded : Step (Unit {0}) → Me (Unit {0}) Tallied → ℕ → Me (Unit {0}) Tallied → Type 0
-Loaded st me n now = (me.0.count ≤ n) × (me.0.seen ≤ n) × (n + me.0.allowance ≤ max_moment) × (now ≡ (tallied me.0.count me.0.allowance n me.0.noted, me.1))
+Loaded st me n now = (me.0.count ≤ n) × (me.0.seen ≤ n) × (n + me.0.allowance ≤ max_moment)
+    × (now ≡ (tallied me.0.count me.0.allowance n me.0.noted, me.1))
 
 -- a seat notes the amount that it is about to split off
 abbrev pub Noted : Step (Unit {0}) → Me (Unit {0}) Tallied → ℕ → Me (Unit {0}) Tallied → Type 0
@@ -48,7 +51,8 @@ pub record Seating : Type 0 where
 
 -- the seat with these parts
 abbrev pub seating : TableId → ℕ → ℕ → ℕ → Seating
-seating tally count allowance seen = record { tally = tally; count = count; allowance = allowance; seen = seen }
+seating tally count allowance seen =
+    record { tally = tally; count = count; allowance = allowance; seen = seen }
 
 -- the seat after n of its allowance was split off
 abbrev pub split_seating : TableId → Seating → ℕ → Seating
@@ -56,4 +60,5 @@ split_seating tally s n = seating tally s.count (s.allowance - n) s.seen
 
 -- two seats as one: their counts and allowances are added
 abbrev pub joined_seating : TableId → Seating → Seating → Seating
-joined_seating tally s t = seating tally (s.count + t.count) (s.allowance + t.allowance) (max s.seen t.seen)
+joined_seating tally s t =
+    seating tally (s.count + t.count) (s.allowance + t.allowance) (max s.seen t.seen)

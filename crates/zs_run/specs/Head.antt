@@ -26,7 +26,8 @@ head_keys = codes "horizon" ∷ codes "ticks" ∷ codes "workers" ∷ codes "gra
 -- the head that a document is, by the causes of a plan's document in their order
 unfoldable pub head_of_tree : Data → Result HeadRecord PlanFault
 head_of_tree d = do
-  clock ← demand_some (ticks_asked (get (codes "horizon") d) (get (codes "ticks") d)) (faults.Shape None)
+  clock ← demand_some (ticks_asked (get (codes "horizon") d) (get (codes "ticks") d))
+      (faults.Shape None)
   workers ← demand_some (whole_or 1 (get (codes "workers") d)) (faults.Shape None)
   grain ← demand_some (whole_or 1 (get (codes "grain") d)) (faults.Shape None)
   _ ← demand (has_only_keys head_keys d) (faults.UnknownKey None)

@@ -11,4 +11,5 @@ head_record head = record { clock = head.clock; workers = head.cut.workers; grai
 
 -- the plan of these jobs that run as a head says
 abbrev pub plan_with : HeadRecord → List JobRecord → PlanRecord
-plan_with head jobs = record { clock = head.clock; workers = head.workers; grain = head.grain; jobs = jobs }
+plan_with head jobs =
+    record { clock = head.clock; workers = head.workers; grain = head.grain; jobs = jobs }

@@ -1,6 +1,7 @@
 -- How a run ends. For success and for each fault: what was read, what was written, and whether
 -- reader or writer failed.
-use Rattle.std.specs.Prelude.{◌≡◌, ◌≢◌, ◌≤◌, ℕ, List, [], length, take, drop, Bool, true, false, Option, Some, Result, Ok, Err, IfSome}
+use Rattle.std.specs.Prelude.{◌≡◌, ◌≢◌, ◌≤◌, ℕ, List, [], length, take, drop, Bool, true, false}
+use Rattle.std.specs.Prelude.{Option, Some, Result, Ok, Err, IfSome}
 use Rattle.std.specs.Io.KnownBytes.{Appends}
 use Rattle.zs_run.specs.Plan.{PlanRecord, plan_of}
 use Rattle.zs_run.specs.PlanReport.{report_of}
@@ -30,7 +31,8 @@ max_read = 16777217
 
 -- Some bytes are this plan. If the reader's bytes are known, they are these, and none remains.
 abbrev pub IsInput : Option (List ℕ) → Option (List ℕ) → PlanRecord → Type 0
-IsInput before left plan = (input : List ℕ) × (plan_of input ≡ Ok plan) × IfSome before (λ known. (known ≡ input) × (left ≡ Some []))
+IsInput before left plan = (input : List ℕ) × (plan_of input ≡ Ok plan)
+    × IfSome before (λ known. (known ≡ input) × (left ≡ Some []))
 
 -- A plan was read, and its report has property P.
 abbrev pub WasPlan : Reading → (List ℕ → Type 0) → Type 0
@@ -45,12 +47,15 @@ WasNoPlan r fault = (input : List ℕ) × (plan_of input ≡ Err fault)
 -- The table: how a run ends, by its result. `Untouched` means that the writer is unchanged.
 abbrev pub Ends : Result (Unit {0}) RunFault → Reading → Writing → Type 0 → Type 0
 Ends (Ok done) r w Untouched =
-    (r.failed ≡ false) × (w.failed ≡ false) × WasPlan r (λ report. Appends w.before w.taken report) × (w.flushed ≡ true)
+    (r.failed ≡ false) × (w.failed ≡ false)
+    × WasPlan r (λ report. Appends w.before w.taken report) × (w.flushed ≡ true)
 Ends (Err Read) r w Untouched =
     (r.failed ≡ true) × (w.failed ≡ false) × Untouched
 Ends (Err (Plan fault)) r w Untouched =
-    (r.failed ≡ false) × (w.failed ≡ false) × Untouched × (fault ≢ faults.Memory → WasNoPlan r fault)
+    (r.failed ≡ false) × (w.failed ≡ false) × Untouched
+    × (fault ≢ faults.Memory → WasNoPlan r fault)
 Ends (Err (Engine fault)) r w Untouched =
     (r.failed ≡ false) × (w.failed ≡ false) × Untouched × WasPlan r (λ report. Unit {0})
 Ends (Err (Write sent)) r w Untouched =
-    (r.failed ≡ false) × (w.failed ≡ true) × WasPlan r (λ report. (sent ≤ length report) × Appends w.before w.taken (take sent report))
+    (r.failed ≡ false) × (w.failed ≡ true)
+    × WasPlan r (λ report. (sent ≤ length report) × Appends w.before w.taken (take sent report))

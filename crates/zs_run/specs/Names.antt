@@ -10,4 +10,5 @@ KnowsNames set names = (name : List ℕ) → contains_text set name ≡ is_one_o
 
 -- the set knows one more name, the last
 abbrev pub LearnsName : BTreeSet (String Global) → BTreeSet (String Global) → List ℕ → Type 0
-LearnsName old new name = (earlier : List (List ℕ)) → KnowsNames old earlier → KnowsNames new (earlier ++ name ∷ [])
+LearnsName old new name = (earlier : List (List ℕ))
+    → KnowsNames old earlier → KnowsNames new (earlier ++ name ∷ [])

@@ -31,15 +31,18 @@ max_jobs = max_tasks
 
 -- 1 to 64 workers, 1 to 10,000 tasks in a batch
 unfoldable pub is_cut : ℕ → ℕ → Bool
-is_cut workers grain = nat_le 1 workers && nat_le workers max_workers && nat_le 1 grain && nat_le grain max_tasks
+is_cut workers grain =
+    nat_le 1 workers && nat_le workers max_workers && nat_le 1 grain && nat_le grain max_tasks
 
 -- the plan of a document
 unfoldable pub plan_of_tree : Data → Result PlanRecord PlanFault
 plan_of_tree d = do
-  clock ← demand_some (ticks_asked (get (codes "horizon") d) (get (codes "ticks") d)) (faults.Shape None)
+  clock ← demand_some (ticks_asked (get (codes "horizon") d) (get (codes "ticks") d))
+      (faults.Shape None)
   parts ← demand_some (document_parts d) (faults.Shape None)
   _ ← demand (has_only_keys document_keys d) (faults.UnknownKey None)
-  _ ← demand (is_clock clock && is_cut parts.workers parts.grain && nat_le (length parts.jobs) max_jobs) (faults.Range None)
+  _ ← demand (is_clock clock && is_cut parts.workers parts.grain
+      && nat_le (length parts.jobs) max_jobs) (faults.Range None)
   jobs ← jobs_of 0 [] parts.jobs
   Ok (record { clock = clock; workers = parts.workers; grain = parts.grain; jobs = jobs })
 

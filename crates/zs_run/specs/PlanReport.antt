@@ -14,11 +14,18 @@ use Rattle.zs_run.specs.Report.{JobReport, job_lines, report_text}
 abbrev pub job_report : List ℕ → JobRecord → JobReport
 job_report ticks job =
     let timeline = timeline_of job ticks in
-    record { name = job.name; mode = job.mode; attempts = timeline.attempts; ending = timeline.ending; polls = length (poll_moments timeline.attempts) }
+    record {
+      name = job.name;
+      mode = job.mode;
+      attempts = timeline.attempts;
+      ending = timeline.ending;
+      polls = length (poll_moments timeline.attempts);
+    }
 
 -- the report of a plan
 abbrev pub report_of : PlanRecord → List ℕ
-report_of plan = let jobs = map (job_report (ticks_of plan.clock)) plan.jobs in report_text (horizon plan.clock) jobs (sum_by (λ job. job.polls) jobs)
+report_of plan = let jobs = map (job_report (ticks_of plan.clock)) plan.jobs in
+    report_text (horizon plan.clock) jobs (sum_by (λ job. job.polls) jobs)
 
 -- the lines of jobs on a clock
 abbrev pub jobs_text : Ticks → List JobRecord → List ℕ

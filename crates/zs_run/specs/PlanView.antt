@@ -6,4 +6,9 @@ use Rattle.zs_run.specs.Plan.{PlanRecord}
 
 -- a plan by the values of its parts
 abbrev pub plan_record : Plan → PlanRecord
-plan_record plan = record { clock = plan.clock; workers = plan.cut.workers; grain = plan.cut.grain; jobs = map job_record plan.jobs.items }
+plan_record plan = record {
+  clock = plan.clock;
+  workers = plan.cut.workers;
+  grain = plan.cut.grain;
+  jobs = map job_record plan.jobs.items;
+}

@@ -6,7 +6,8 @@ use Rattle.zs_run.specs.declared.plan_fault.PlanFault.TheVariants as faults
 
 infixl 10 ◌>>=◌
 -- the next check, unless this one failed
-abbrev pub ◌>>=◌ : {A B : Type 0} → Result A PlanFault → (A → Result B PlanFault) → Result B PlanFault
+abbrev pub ◌>>=◌ : {A B : Type 0} → Result A PlanFault
+    → (A → Result B PlanFault) → Result B PlanFault
 (Ok x) >>= f = f x
 (Err e) >>= f = Err e
 

@@ -15,4 +15,5 @@ task_report task = record {
 
 -- the last line of a task's job
 abbrev pub task_end : ℕ → TaskValue → List ℕ
-task_end horizon task = end_line horizon (current_timeline task).attempts (current_timeline task).ending (length task.moments)
+task_end horizon task = end_line horizon (current_timeline task).attempts
+    (current_timeline task).ending (length task.moments)

@@ -22,7 +22,8 @@ asked_view (Listed moments) = listed moments.items
 
 -- the parts of a document, by their values
 abbrev pub document_view : document.DocumentParts → DocumentParts
-document_view parts = record { workers = parts.workers; grain = parts.grain; jobs = map view parts.jobs.items }
+document_view parts =
+    record { workers = parts.workers; grain = parts.grain; jobs = map view parts.jobs.items }
 
 -- the parts of a job, by their values
 abbrev pub job_view : job.JobParts → JobParts

@@ -7,7 +7,8 @@ use Rattle.zs_agenda.specs.Ticks.{Ticks, every_ms, listed}
 use Rattle.zs_effect.specs.declared.script.Beat.{Beat}
 use Rattle.zs_effect.specs.declared.script.Outcome.{Outcome}
 use Rattle.zs_effect.specs.declared.script.Outcome.TheVariants.{Good, Bad}
-use Rattle.zs_run.specs.Tree.{◌>>=◌, as_whole, as_wholes, find_whole, find_text, find_list, whole_or}
+use Rattle.zs_run.specs.Tree.{◌>>=◌, as_whole, as_wholes, find_whole, find_text, find_list}
+use Rattle.zs_run.specs.Tree.{whole_or}
 
 -- ---- an entry of a script
 
@@ -57,7 +58,8 @@ job_parts d = do
 
 -- the keys that it may have
 abbrev pub document_keys : List (List ℕ)
-document_keys = codes "horizon" ∷ codes "ticks" ∷ codes "workers" ∷ codes "grain" ∷ codes "jobs" ∷ []
+document_keys =
+    codes "horizon" ∷ codes "ticks" ∷ codes "workers" ∷ codes "grain" ∷ codes "jobs" ∷ []
 
 -- the ticks of a document, by the values at `horizon` and `ticks`: exactly one of them
 abbrev pub ticks_asked : Option Data → Option Data → Option Ticks

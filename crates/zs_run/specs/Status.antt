@@ -1,7 +1,9 @@
 -- The exit status for each result of a run.
 use Rattle.std.specs.Prelude.{ℕ, Result, Ok, Err}
 use Rattle.zs_run.specs.declared.plan_fault.PlanFault.{PlanFault}
-use Rattle.zs_run.specs.declared.plan_fault.PlanFault.TheVariants.{TooLong, Json, Shape, UnknownKey, Range, Name, SameName, Schedule, Script, Memory}
+use Rattle.zs_run.specs.declared.plan_fault.PlanFault.TheVariants.{TooLong, Json, Shape, UnknownKey}
+use Rattle.zs_run.specs.declared.plan_fault.PlanFault.TheVariants.{Range, Name, SameName, Schedule}
+use Rattle.zs_run.specs.declared.plan_fault.PlanFault.TheVariants.{Script, Memory}
 use Rattle.zs_run.specs.declared.run_fault.RunFault.{RunFault}
 use Rattle.zs_run.specs.declared.run_fault.RunFault.TheVariants.{Read, Plan, Engine, Write}
 

@@ -83,4 +83,5 @@ reported plan = map (job_report (ticks_of plan.clock)) plan.jobs
 -- at that end. So the job's last line never shows a default.
 abbrev pub HasItsEnd : List AttemptedValue → Option Ending → Type 0
 HasItsEnd attempts ending =
-    IfSome ending (λ e. (end : EndedValue) × (last_ended attempts ≡ Some end) × (e ≡ Finished → (step : Answer) × (end.step ≡ Some step)))
+    IfSome ending (λ e. (end : EndedValue) × (last_ended attempts ≡ Some end)
+    × (e ≡ Finished → (step : Answer) × (end.step ≡ Some step)))

@@ -3,12 +3,18 @@
 -- anew on every history that its rule names. docs/SEMANTICS.md has the rules in words, and
 -- `proofs/Rows.antt` has worked examples. The laws in `src/laws.rt` state over whole histories what
 -- is defined here step by step.
-use Rattle.std.specs.Prelude.{ℕ, zero, suc, ◌+◌, ◌-◌, ◌*◌, ◌%◌, ◌^◌, min, max, Bool, true, false, ◌||◌, nat_lt, nat_eq, if◌then◌else◌, Option, Some, None, [], ◌∷◌, length}
+use Rattle.std.specs.Prelude.{ℕ, zero, suc, ◌+◌, ◌-◌, ◌*◌, ◌%◌, ◌^◌, min, max, Bool, true, false}
+use Rattle.std.specs.Prelude.{◌||◌, nat_lt, nat_eq, if◌then◌else◌, Option, Some, None, [], ◌∷◌}
+use Rattle.std.specs.Prelude.{length}
 use Rattle.zs_term.specs.Saturating.{saturated}
-use Rattle.zs_term.specs.Output.{Output, Outputs, number, pair, left, right, listed, none, with_last, passes, picked, applied}
-use Rattle.zs_term.specs.Schedule.{Schedule, leaf, two, over, Leaf, plain, counted, exponential, Pairing, both, either, and_then, Modifier, while_input, while_output, collect_all, mapped, reset_when}
+use Rattle.zs_term.specs.Output.{Output, Outputs, number, pair, left, right, listed, none}
+use Rattle.zs_term.specs.Output.{with_last, passes, picked, applied}
+use Rattle.zs_term.specs.Schedule.{Schedule, leaf, two, over, Leaf, plain, counted, exponential}
+use Rattle.zs_term.specs.Schedule.{Pairing, both, either, and_then, Modifier, while_input}
+use Rattle.zs_term.specs.Schedule.{while_output, collect_all, mapped, reset_when}
 use Rattle.zs_term.specs.declared.forms.Plain.TheVariants.{Forever, Identity, Elapsed}
-use Rattle.zs_term.specs.declared.forms.Counted.TheVariants.{Recurs, Spaced, Fixed, Fibonacci, Linear, Windowed}
+use Rattle.zs_term.specs.declared.forms.Counted.TheVariants.{Recurs, Spaced, Fixed, Fibonacci}
+use Rattle.zs_term.specs.declared.forms.Counted.TheVariants.{Linear, Windowed}
 use Rattle.zs_term.specs.declared.term.Test.{Test}
 use Rattle.zs_term.specs.declared.term.Pick.{Pick}
 use Rattle.zs_step.specs.declared.decision.Decision.{Decision}
@@ -113,21 +119,28 @@ reset_if false p g = p ∷ g
 -- the history from the last reset on: a step resets if its output so far passes the test
 abbrev pub since_reset : (History → Answer) → Pick → Test → History → History
 since_reset a k t [] = []
-since_reset a k t (p ∷ h) = reset_if (passes t (picked k (a (p ∷ since_reset a k t h)).output)) p (since_reset a k t h)
+since_reset a k t (p ∷ h) =
+    reset_if (passes t (picked k (a (p ∷ since_reset a k t h)).output)) p (since_reset a k t h)
 
 -- the rules of the leaves
 abbrev pub leaf_answer : Leaf → History → Answer
-leaf_answer (plain Forever) h = answer (number (saturated (length (earlier h)))) (Next (last_moment h))
-leaf_answer (counted Recurs k) h = answer (number (saturated (length (earlier h)))) (only_if (nat_lt (length (earlier h)) k) (Next (last_moment h)))
-leaf_answer (counted Spaced d) h = answer (number (saturated (length (earlier h)))) (Next (saturated (last_moment h + d)))
-leaf_answer (counted Fixed p) h = answer (number (saturated (length (earlier h)))) (Next (next_run p h))
+leaf_answer (plain Forever) h =
+    answer (number (saturated (length (earlier h)))) (Next (last_moment h))
+leaf_answer (counted Recurs k) h = answer (number (saturated (length (earlier h))))
+    (only_if (nat_lt (length (earlier h)) k) (Next (last_moment h)))
+leaf_answer (counted Spaced d) h =
+    answer (number (saturated (length (earlier h)))) (Next (saturated (last_moment h + d)))
+leaf_answer (counted Fixed p) h =
+    answer (number (saturated (length (earlier h)))) (Next (next_run p h))
 leaf_answer (exponential b f) h = waits (saturated (b * f ^ length (earlier h))) h
 leaf_answer (counted Fibonacci o) h = waits (saturated (o * fibonacci_number (length h))) h
 leaf_answer (plain Identity) h = answer (number (last_input h)) (Next (last_moment h))
-leaf_answer (plain Elapsed) h = answer (number (last_moment h - first_moment h)) (Next (last_moment h))
+leaf_answer (plain Elapsed) h =
+    answer (number (last_moment h - first_moment h)) (Next (last_moment h))
 leaf_answer (counted Linear n) h = waits (saturated (n * length h)) h
 leaf_answer (counted Windowed n) h =
-    answer (number (saturated (length (earlier h)))) (Next (window_end n (first_moment h) (last_moment h)))
+    answer (number (saturated (length (earlier h))))
+    (Next (window_end n (first_moment h) (last_moment h)))
 
 -- the rules of the operators between two schedules, given their results on every history
 abbrev pub paired : Pairing → (History → Answer) → (History → Answer) → History → Answer
@@ -137,8 +150,10 @@ paired and_then a b h = sequel a b h
 
 -- the rules of the operators over one schedule, given its results on every history
 abbrev pub modified : Modifier → (History → Answer) → History → Answer
-modified (while_input t) a h = answer (a h).output (only_if (passes t (last_input h)) (a h).decision)
-modified (while_output k t) a h = answer (a h).output (only_if (passes t (picked k (a h).output)) (a h).decision)
+modified (while_input t) a h =
+    answer (a h).output (only_if (passes t (last_input h)) (a h).decision)
+modified (while_output k t) a h =
+    answer (a h).output (only_if (passes t (picked k (a h).output)) (a h).decision)
 modified collect_all a h = answer (listed (collected a (earlier h))) (a h).decision
 modified (mapped f) a h = answer (applied f (a h).output) (a h).decision
 modified (reset_when k t) a h = a (since_reset a k t h)

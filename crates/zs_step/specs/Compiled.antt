@@ -1,5 +1,6 @@
 -- What callers know about a compiled schedule.
-use Rattle.std.specs.Prelude.{◌≡◌, ◌≤◌, ◌<◌, ◌+◌, ℕ, Bool, true, false, List, ◌∷◌, length, take, slice_index_or, Some, Result, IfOk, OnOk, IsOk, is_err, IsTrue}
+use Rattle.std.specs.Prelude.{◌≡◌, ◌≤◌, ◌<◌, ◌+◌, ℕ, Bool, true, false, List, ◌∷◌, length, take}
+use Rattle.std.specs.Prelude.{slice_index_or, Some, Result, IfOk, OnOk, IsOk, is_err, IsTrue}
 use Rattle.zs_term.specs.declared.term.Term.{Term}
 use Rattle.zs_term.specs.Schedule.{Schedule, schedule_of, weight}
 use Rattle.zs_term.specs.Output.{Output, output_of}
@@ -60,7 +61,8 @@ AreAnswers t pairs results = (j : ℕ) (d : Stepped) → j < length pairs →
     IsAnswer t (history_of (take (j + 1) pairs)) (slice_index_or results j d)
 
 -- One step of a schedule with a moment and an input, which returns a decision and its visits.
-pub record Advances (old new : Compiled) (now input : ℕ) (result : Result (Decision × ℕ) StepFault) : Type 0 where
+pub record Advances (old new : Compiled) (now input : ℕ)
+    (result : Result (Decision × ℕ) StepFault) : Type 0 where
   -- The output that it then has, the decision and the visits are those of every history that it
   -- represented, with this step.
   pub answered : IfOk result (λ r. (h : History) → StandsFor old h →
@@ -68,19 +70,22 @@ pub record Advances (old new : Compiled) (now input : ℕ) (result : Result (Dec
   -- It then represents that history with this step.
   pub stands : OnOk result ((h : History) → StandsFor old h → StandsFor new ((now, input) ∷ h))
   -- A schedule that collects no outputs needs no memory.
-  pub succeeds : (h : History) → StandsFor old h → keeps_no_list (compiled_schedule old) ≡ true → IsOk result
+  pub succeeds : (h : History) → StandsFor old h
+      → keeps_no_list (compiled_schedule old) ≡ true → IsOk result
   pub seen : last_seen new ≤ now
   -- A step that fails breaks the schedule, and a broken one never changes.
   pub breaks : is_broken new ≡ is_err result
   pub stays : IsTrue (is_broken old) → new ≡ old
 
 -- the same with the output made
-pub record Steps (old new : Compiled) (now input : ℕ) (result : Result Stepped StepFault) : Type 0 where
+pub record Steps (old new : Compiled) (now input : ℕ)
+    (result : Result Stepped StepFault) : Type 0 where
   pub answered : IfOk result (λ r. (h : History) → StandsFor old h →
       IsAnswer (compiled_schedule old) ((now, input) ∷ h) r)
   pub stands : OnOk result ((h : History) → StandsFor old h → StandsFor new ((now, input) ∷ h))
   -- A schedule that makes no pair, no side of a choice and no list needs no memory.
-  pub succeeds : (h : History) → StandsFor old h → is_bare (compiled_schedule old) ≡ true → IsOk result
+  pub succeeds : (h : History) → StandsFor old h
+      → is_bare (compiled_schedule old) ≡ true → IsOk result
   pub seen : last_seen new ≤ now
   pub breaks : is_broken new ≡ is_err result
   pub stays : IsTrue (is_broken old) → new ≡ old

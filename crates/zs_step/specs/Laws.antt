@@ -13,7 +13,8 @@ use Rattle.zs_step.specs.Answer.{Answer, answer, answer_of, is_next, since_reset
 
 -- a schedule continues at every step of a history
 abbrev pub GoesOnThroughout : (History → Answer) → History → Type 0
-GoesOnThroughout a h = (later before : History) (p : ℕ × ℕ) → h ≡ later ++ p ∷ before → is_next (a (p ∷ before)).decision ≡ true
+GoesOnThroughout a h = (later before : History) (p : ℕ × ℕ)
+    → h ≡ later ++ p ∷ before → is_next (a (p ∷ before)).decision ≡ true
 
 -- a part of a history: from the least step at which a schedule is done, up to the last step
 pub record IsFromFirstDone (a : History → Answer) (h part : History) : Type 0 where
@@ -49,11 +50,13 @@ resets_at a k t (p ∷ h) = passes t (picked k (a (p ∷ since_reset a k t h)).o
 
 -- no step of the history `h`, which follows `before`, resets a schedule
 abbrev pub IsWithoutReset : (History → Answer) → Pick → Test → History → History → Type 0
-IsWithoutReset a k t h before = (later earlier : History) (p : ℕ × ℕ) → h ≡ later ++ p ∷ earlier → resets_at a k t (p ∷ (earlier ++ before)) ≡ false
+IsWithoutReset a k t h before = (later earlier : History) (p : ℕ × ℕ)
+    → h ≡ later ++ p ∷ earlier → resets_at a k t (p ∷ (earlier ++ before)) ≡ false
 
 -- A part of a history: from the last step that resets a schedule on. That step begins it anew, so
 -- what the part counts there is the step alone.
-pub record IsFromLastReset (a : History → Answer) (k : Pick) (t : Test) (h part : History) : Type 0 where
+pub record IsFromLastReset (a : History → Answer)
+    (k : Pick) (t : Test) (h part : History) : Type 0 where
   pub before : History
   pub first : ℕ × ℕ
   pub later : History

@@ -3,11 +3,14 @@
 use Rattle.std.specs.Prelude.{◌≡◌, ℕ, suc, ◌+◌, ◌*◌, ◌^◌, Option, Some, None, [], ◌∷◌, length}
 use Rattle.zs_term.specs.Saturating.{saturated}
 use Rattle.zs_term.specs.Output.{number}
-use Rattle.zs_term.specs.Schedule.{Leaf as LeafRule, forever, recurs, spaced, fixed, exponential, fibonacci, identity, elapsed, linear, windowed}
+use Rattle.zs_term.specs.Schedule.{Leaf as LeafRule, forever, recurs, spaced, fixed, exponential}
+use Rattle.zs_term.specs.Schedule.{fibonacci, identity, elapsed, linear, windowed}
 use Rattle.zs_step.specs.declared.decision.Decision.{Decision}
 use Rattle.zs_step.specs.declared.leaf.Past.{Past}
 use Rattle.zs_step.specs.declared.leaf.Leaf.{Leaf}
-use Rattle.zs_step.specs.declared.leaf.Leaf.TheVariants.{Forever, Recurs, Spaced, Fixed, Exponential, Fibonacci, Identity, Elapsed, Linear, Windowed}
+use Rattle.zs_step.specs.declared.leaf.Leaf.TheVariants.{Forever, Recurs, Spaced, Fixed}
+use Rattle.zs_step.specs.declared.leaf.Leaf.TheVariants.{Exponential, Fibonacci, Identity, Elapsed}
+use Rattle.zs_step.specs.declared.leaf.Leaf.TheVariants.{Linear, Windowed}
 use Rattle.zs_step.specs.History.{History, first_moment}
 use Rattle.zs_step.specs.Answer.{answer, leaf_answer, fibonacci_number, next_run}
 
@@ -79,7 +82,8 @@ LeafRepresents (Recurs k b) h = b ≡ before_of h
 LeafRepresents (Spaced d b) h = b ≡ before_of h
 LeafRepresents (Fixed p past run) h = (past ≡ past_of h) × (run ≡ next_run p h)
 LeafRepresents (Exponential b f x y) h = y ≡ saturated (b * f ^ length h)
-LeafRepresents (Fibonacci o x y) h = (x ≡ saturated (o * fibonacci_number (length h))) × (y ≡ saturated (o * fibonacci_number (suc (length h))))
+LeafRepresents (Fibonacci o x y) h = (x ≡ saturated (o * fibonacci_number (length h)))
+    × (y ≡ saturated (o * fibonacci_number (suc (length h))))
 LeafRepresents (Identity x) h = Unit {0}
 LeafRepresents (Elapsed m x) h = m ≡ start_of h
 LeafRepresents (Linear n x) h = x ≡ saturated (n * length h)

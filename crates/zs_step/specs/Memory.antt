@@ -1,6 +1,7 @@
 -- Which schedules are stepped without memory allocation.
 use Rattle.std.specs.Prelude.{Bool, true, false, ◌&&◌}
-use Rattle.zs_term.specs.Schedule.{Schedule, leaf, two, over, Modifier, while_input, while_output, collect_all, mapped, reset_when}
+use Rattle.zs_term.specs.Schedule.{Schedule, leaf, two, over, Modifier, while_input, while_output}
+use Rattle.zs_term.specs.Schedule.{collect_all, mapped, reset_when}
 
 -- a schedule without parts
 abbrev pub is_leaf : Schedule → Bool

@@ -1,16 +1,21 @@
 -- What tests read of outputs: for private contracts alone.
 use Rattle.std.specs.Prelude.{◌≡◌, ℕ, ◌+◌, suc, Option, Some, None, Bool, true, false, ◌⊎◌}
 use Rattle.zs_term.specs.declared.term.Func.{Func}
-use Rattle.zs_term.specs.declared.term.Func.TheVariants.{First, Second, Size as SizeOf, Merge, Const, Add, Mul}
-use Rattle.zs_term.specs.Output.{Output, Outputs, number, pair, left, right, listed, count, number_in}
+use Rattle.zs_term.specs.declared.term.Func.TheVariants.{First, Second, Size as SizeOf, Merge}
+use Rattle.zs_term.specs.declared.term.Func.TheVariants.{Const, Add, Mul}
+use Rattle.zs_term.specs.Output.{Output, Outputs, number, pair, left, right, listed, count}
+use Rattle.zs_term.specs.Output.{number_in}
 use Rattle.zs_step.specs.declared.numbers.Numbers.{Numbers}
 use Rattle.zs_step.specs.declared.numbers.Numbers.TheVariants.{One, Two, Mixed, Size, Side}
 use Rattle.zs_step.specs.declared.state.State.{State}
-use Rattle.zs_step.specs.declared.state.State.TheVariants.{Leaf, Both', Either', AndThen', WhileInput', WhileOutput', CollectAll', Map', ResetWhen'}
+use Rattle.zs_step.specs.declared.state.State.TheVariants.{Leaf, Both', Either', AndThen'}
+use Rattle.zs_step.specs.declared.state.State.TheVariants.{WhileInput', WhileOutput', CollectAll'}
+use Rattle.zs_step.specs.declared.state.State.TheVariants.{Map', ResetWhen'}
 
 -- an output is a pair of outputs with these numbers, or 0 for what is no number
 abbrev pub IsPairOf : ℕ → ℕ → Output → Type 0
-IsPairOf a b o = (x : Output) × (y : Output) × (o ≡ pair x y) × (a ≡ number_in x) × (b ≡ number_in y)
+IsPairOf a b o =
+    (x : Output) × (y : Output) × (o ≡ pair x y) × (a ≡ number_in x) × (b ≡ number_in y)
 
 -- what tests read of an output
 abbrev pub IsNumbers : Numbers → Output → Type 0

@@ -2,10 +2,13 @@
 -- `answer_of` returns on the longer history. `step_node` preserves this relation.
 use Rattle.std.specs.Prelude.{◌≡◌, ℕ, ◌+◌, ◌≤◌, Bool, true, false, Option, Some, None, [], ◌∷◌}
 use Rattle.zs_term.specs.Output.{Output, number, pair, left, right, listed, applied}
-use Rattle.zs_term.specs.Schedule.{Schedule, weight, leaf, two, over, both, either, and_then, while_input, while_output, collect_all, mapped, reset_when}
+use Rattle.zs_term.specs.Schedule.{Schedule, weight, leaf, two, over, both, either, and_then}
+use Rattle.zs_term.specs.Schedule.{while_input, while_output, collect_all, mapped, reset_when}
 use Rattle.zs_step.specs.declared.decision.Decision.{Decision}
 use Rattle.zs_step.specs.declared.state.State.{State}
-use Rattle.zs_step.specs.declared.state.State.TheVariants.{Leaf, Both', Either', AndThen', WhileInput', WhileOutput', CollectAll', Map', ResetWhen'}
+use Rattle.zs_step.specs.declared.state.State.TheVariants.{Leaf, Both', Either', AndThen'}
+use Rattle.zs_step.specs.declared.state.State.TheVariants.{WhileInput', WhileOutput', CollectAll'}
+use Rattle.zs_step.specs.declared.state.State.TheVariants.{Map', ResetWhen'}
 use Rattle.zs_step.specs.History.{History}
 use Rattle.zs_step.specs.LeafState.{state_leaf, leaf_output, LeafRepresents}
 use Rattle.zs_step.specs.Collected.{earlier_outputs, collected_outputs}
@@ -55,11 +58,13 @@ Represents (Leaf l) h = LeafRepresents l h
 Represents (Both' p a b) h = Represents a h × Represents b h
 Represents (Either' p a b) h = Represents a h × Represents b h
 Represents (AndThen' done p a b) h =
-    SequelRepresents done (from_done (answer_of (state_schedule a)) h) (Represents a h) (Represents b)
+    SequelRepresents done (from_done (answer_of (state_schedule a)) h)
+    (Represents a h) (Represents b)
 Represents (WhileInput' p s t) h = Represents s h
 Represents (WhileOutput' p s k t) h = Represents s h
 Represents (CollectAll' p s kept) h =
-    Represents s h × (collected_outputs kept.value (last_output s) ≡ collected (answer_of (state_schedule s)) h)
+    Represents s h
+    × (collected_outputs kept.value (last_output s) ≡ collected (answer_of (state_schedule s)) h)
 Represents (Map' p s f) h = Represents s h
 Represents (ResetWhen' p s k t) h = Represents s (since_reset (answer_of (state_schedule s)) k t h)
 
@@ -78,11 +83,13 @@ IsJoined (ResetWhen' p s k t) = IsJoined s
 -- what a step decides, with the output that the state then has, is the schedule's result on every
 -- history that the old state represents
 pub record Answers (old new : State) (now input : ℕ) (d : Decision) : Type 0 where
-  pub answered : (h : History) → Represents old h → answer (last_output new) d ≡ answer_of (state_schedule old) ((now, input) ∷ h)
+  pub answered : (h : History) → Represents old h
+      → answer (last_output new) d ≡ answer_of (state_schedule old) ((now, input) ∷ h)
 
 -- A step counts visits: `before` has those before it with the node itself, `after` also those of
 -- its parts. The new state represents the old one's histories with the step.
 pub record CountsOn (old new : State) (now input before after : ℕ) : Type 0 where
   pub bound : 1 + after ≤ before + weight (state_schedule old)
-  pub visited : (h : History) → Represents old h → 1 + after ≡ before + visits (state_schedule old) ((now, input) ∷ h)
+  pub visited : (h : History) → Represents old h
+      → 1 + after ≡ before + visits (state_schedule old) ((now, input) ∷ h)
   pub stands : (h : History) → Represents old h → Represents new ((now, input) ∷ h)

@@ -1,6 +1,8 @@
 -- The number of nodes that the last step of a history visits.
 use Rattle.std.specs.Prelude.{ℕ, ◌+◌, Bool, true, false, Option, Some, None, [], ◌∷◌}
-use Rattle.zs_term.specs.Schedule.{Schedule, leaf, two, over, Pairing, both, either, and_then, Modifier, while_input, while_output, collect_all, mapped, reset_when}
+use Rattle.zs_term.specs.Schedule.{Schedule, leaf, two, over, Pairing, both, either, and_then}
+use Rattle.zs_term.specs.Schedule.{Modifier, while_input, while_output, collect_all, mapped}
+use Rattle.zs_term.specs.Schedule.{reset_when}
 use Rattle.zs_step.specs.History.{History, earlier}
 use Rattle.zs_term.specs.Output.{passes, picked}
 use Rattle.zs_term.specs.declared.term.Test.{Test}
@@ -23,10 +25,12 @@ reset_visits_if false x y = x
 abbrev pub reset_visits : (History → Answer) → (History → ℕ) → Pick → Test → History → ℕ
 reset_visits a v k t [] = 0
 reset_visits a v k t (p ∷ h) =
-    reset_visits_if (passes t (picked k (a (p ∷ since_reset a k t h)).output)) (v (p ∷ since_reset a k t h)) (v (p ∷ []))
+    reset_visits_if (passes t (picked k (a (p ∷ since_reset a k t h)).output))
+    (v (p ∷ since_reset a k t h)) (v (p ∷ []))
 
 -- the visits of two parts
-abbrev pub paired_visits : Pairing → (History → Answer) → (History → ℕ) → (History → ℕ) → History → ℕ
+abbrev pub paired_visits : Pairing → (History → Answer)
+    → (History → ℕ) → (History → ℕ) → History → ℕ
 paired_visits both a v w h = v h + w h
 paired_visits either a v w h = v h + w h
 paired_visits and_then a v w h = sequel_visits (from_done a (earlier h)) (from_done a h) (v h) w

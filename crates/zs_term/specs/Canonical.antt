@@ -1,15 +1,19 @@
 -- The one canonical spelling of a term.
 use Rattle.std.specs.Prelude.{ℕ, List, [], ◌++◌, codes}
 use Rattle.std.specs.Fmt.{decimal}
-use Rattle.zs_term.specs.Schedule.{Schedule, leaf, two, over, Leaf, plain, counted, exponential, Pairing, both, either, and_then, Modifier, while_input, while_output, collect_all, mapped, reset_when}
+use Rattle.zs_term.specs.Schedule.{Schedule, leaf, two, over, Leaf, plain, counted, exponential}
+use Rattle.zs_term.specs.Schedule.{Pairing, both, either, and_then, Modifier, while_input}
+use Rattle.zs_term.specs.Schedule.{while_output, collect_all, mapped, reset_when}
 use Rattle.zs_term.specs.Token.{plain_word, counted_word}
 use Rattle.zs_term.specs.declared.term.Test.{Test}
 use Rattle.zs_term.specs.declared.term.Cmp.{Cmp}
 use Rattle.zs_term.specs.declared.term.Cmp.TheVariants.{Lt, Le, Eq, Ne, Gt, Ge}
 use Rattle.zs_term.specs.declared.term.Pick.{Pick}
-use Rattle.zs_term.specs.declared.term.Pick.TheVariants.{Whole as PickWhole, First as PickFirst, Second as PickSecond, Size as PickSize}
+use Rattle.zs_term.specs.declared.term.Pick.TheVariants.{Whole as PickWhole, First as PickFirst}
+use Rattle.zs_term.specs.declared.term.Pick.TheVariants.{Second as PickSecond, Size as PickSize}
 use Rattle.zs_term.specs.declared.term.Func.{Func}
-use Rattle.zs_term.specs.declared.term.Func.TheVariants.{First, Second, Size, Merge, Const, Add, Mul}
+use Rattle.zs_term.specs.declared.term.Func.TheVariants.{First, Second, Size, Merge, Const, Add}
+use Rattle.zs_term.specs.declared.term.Func.TheVariants.{Mul}
 
 -- a comparison and the space after it
 abbrev pub cmp_text : Cmp → List ℕ
@@ -73,7 +77,8 @@ reset_when_text = codes ".resetWhen("
 abbrev pub leaf_text : Leaf → List ℕ
 leaf_text (plain p) = plain_word p
 leaf_text (counted c n) = number_text (counted_word c) n
-leaf_text (exponential b f) = exponential_text ++ (decimal b ++ (codes ", " ++ (decimal f ++ codes ")")))
+leaf_text (exponential b f) =
+    exponential_text ++ (decimal b ++ (codes ", " ++ (decimal f ++ codes ")")))
 
 -- the text between two schedules
 abbrev pub pairing_text : Pairing → List ℕ

@@ -1,19 +1,27 @@
 -- Which token lists spell which terms: one equation for each shape, with numbers of any size.
 use Rattle.std.specs.Prelude.{◌≡◌, ℕ, List, [], ◌∷◌, ◌++◌, ◌⊎◌}
-use Rattle.zs_term.specs.Schedule.{Schedule, leaf, two, over, Leaf, plain, counted, exponential, Pairing, both, either, and_then, Modifier, while_input, while_output, collect_all, mapped, reset_when}
+use Rattle.zs_term.specs.Schedule.{Schedule, leaf, two, over, Leaf, plain, counted, exponential}
+use Rattle.zs_term.specs.Schedule.{Pairing, both, either, and_then, Modifier, while_input}
+use Rattle.zs_term.specs.Schedule.{while_output, collect_all, mapped, reset_when}
 use Rattle.zs_term.specs.Token.{Token, number, mark}
 use Rattle.zs_term.specs.declared.token.Mark.{Mark}
-use Rattle.zs_term.specs.declared.token.Mark.TheVariants.{PlainWord, CountedWord, ExponentialWord, Operator, MethodWord, CollectAllWord, Comparison, PieceWord, MergeWord, ScaleWord, Open, Close, Comma, Dot}
+use Rattle.zs_term.specs.declared.token.Mark.TheVariants.{PlainWord, CountedWord, ExponentialWord}
+use Rattle.zs_term.specs.declared.token.Mark.TheVariants.{Operator, MethodWord, CollectAllWord}
+use Rattle.zs_term.specs.declared.token.Mark.TheVariants.{Comparison, PieceWord, MergeWord}
+use Rattle.zs_term.specs.declared.token.Mark.TheVariants.{ScaleWord, Open, Close, Comma, Dot}
 use Rattle.zs_term.specs.declared.forms.Infix.TheVariants.{Both, Either, AndThen}
 use Rattle.zs_term.specs.declared.forms.Method.{Method}
 use Rattle.zs_term.specs.declared.forms.Method.TheVariants.{WhileInput, WhileOutput, Map, ResetWhen}
-use Rattle.zs_term.specs.declared.forms.Piece.TheVariants.{First as PieceFirst, Second as PieceSecond, Size as PieceSize}
+use Rattle.zs_term.specs.declared.forms.Piece.TheVariants.{First as PieceFirst}
+use Rattle.zs_term.specs.declared.forms.Piece.TheVariants.{Second as PieceSecond, Size as PieceSize}
 use Rattle.zs_term.specs.declared.forms.Scale.TheVariants.{Constant, Plus, Times}
 use Rattle.zs_term.specs.declared.term.Test.{Test}
 use Rattle.zs_term.specs.declared.term.Pick.{Pick}
-use Rattle.zs_term.specs.declared.term.Pick.TheVariants.{Whole as PickWhole, First as PickFirst, Second as PickSecond, Size as PickSize}
+use Rattle.zs_term.specs.declared.term.Pick.TheVariants.{Whole as PickWhole, First as PickFirst}
+use Rattle.zs_term.specs.declared.term.Pick.TheVariants.{Second as PickSecond, Size as PickSize}
 use Rattle.zs_term.specs.declared.term.Func.{Func}
-use Rattle.zs_term.specs.declared.term.Func.TheVariants.{First, Second, Size, Merge, Const, Add, Mul}
+use Rattle.zs_term.specs.declared.term.Func.TheVariants.{First, Second, Size, Merge, Const, Add}
+use Rattle.zs_term.specs.declared.term.Func.TheVariants.{Mul}
 
 -- the token of a pick; nothing for the whole output
 abbrev pub pick_tokens : Pick → List Token
@@ -46,7 +54,8 @@ with_infix left operator right = mark Open ∷ left ++ (mark operator ∷ right 
 
 -- `.word(..)`
 abbrev pub with_method : Method → List Token → List Token
-with_method word arguments = mark Dot ∷ mark (MethodWord word) ∷ mark Open ∷ arguments ++ mark Close ∷ []
+with_method word arguments =
+    mark Dot ∷ mark (MethodWord word) ∷ mark Open ∷ arguments ++ mark Close ∷ []
 
 -- `C N`, a comparison with a number
 abbrev pub test_tokens : Test → List Token
@@ -55,7 +64,8 @@ test_tokens t = mark (Comparison t.cmp) ∷ number t.than ∷ []
 -- `(S op S)`, with a relation for what spells each S
 abbrev pub IsInfix : (List Token → Type 0) → Mark → (List Token → Type 0) → List Token → Type 0
 IsInfix Left operator Right tokens =
-    (left : List Token) × (right : List Token) × Left left × Right right × (tokens ≡ with_infix left operator right)
+    (left : List Token) × (right : List Token) × Left left
+    × Right right × (tokens ≡ with_infix left operator right)
 
 -- S followed by these tokens, with a relation for what spells S
 abbrev pub IsFollowed : (List Token → Type 0) → List Token → List Token → Type 0
@@ -65,7 +75,8 @@ IsFollowed Front behind tokens = (front : List Token) × Front front × (tokens 
 abbrev pub SpellsLeaf : List Token → Leaf → Type 0
 SpellsLeaf tokens (plain p) = tokens ≡ mark (PlainWord p) ∷ []
 SpellsLeaf tokens (counted c n) = tokens ≡ with_number (CountedWord c) n
-SpellsLeaf tokens (exponential b f) = ((tokens ≡ with_number ExponentialWord b) × (f ≡ 2)) ⊎ (tokens ≡ with_numbers ExponentialWord b f)
+SpellsLeaf tokens (exponential b f) = ((tokens ≡ with_number ExponentialWord b) × (f ≡ 2))
+    ⊎ (tokens ≡ with_numbers ExponentialWord b f)
 
 -- the token between two schedules
 abbrev pub pairing_mark : Pairing → Mark

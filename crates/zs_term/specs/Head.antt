@@ -5,7 +5,8 @@ use Rattle.zs_term.specs.declared.term.Func.TheVariants.{First, Second, Merge}
 use Rattle.zs_term.specs.declared.inference.Head.{Head}
 use Rattle.zs_term.specs.declared.inference.Head.TheVariants.{Num, Pair, Sum, Items}
 use Rattle.zs_term.specs.OutputKind.{OutputKind, num, pair_of, sum_of, list_of}
-use Rattle.zs_term.specs.Schedule.{Schedule, leaf, two, over, while_input, while_output, collect_all, mapped, reset_when, schedule_of, depth}
+use Rattle.zs_term.specs.Schedule.{Schedule, leaf, two, over, while_input, while_output}
+use Rattle.zs_term.specs.Schedule.{collect_all, mapped, reset_when, schedule_of, depth}
 use Rattle.zs_term.specs.Kinds.{pairing_kind}
 
 -- the kind of a function's results, if it applies to the kind
@@ -28,8 +29,10 @@ unchecked_kind (over s (reset_when k t)) = unchecked_kind s
 -- the kind with this outermost form
 abbrev pub head_kind : Head → OutputKind
 head_kind Num = num
-head_kind (Pair a b) = pair_of (unchecked_kind (schedule_of a.now)) (unchecked_kind (schedule_of b.now))
-head_kind (Sum a b) = sum_of (unchecked_kind (schedule_of a.now)) (unchecked_kind (schedule_of b.now))
+head_kind (Pair a b) =
+    pair_of (unchecked_kind (schedule_of a.now)) (unchecked_kind (schedule_of b.now))
+head_kind (Sum a b) =
+    sum_of (unchecked_kind (schedule_of a.now)) (unchecked_kind (schedule_of b.now))
 head_kind (Items a) = list_of (unchecked_kind (schedule_of a.now))
 
 -- 1 more than the depth of the deepest term in a form, 0 if it has none

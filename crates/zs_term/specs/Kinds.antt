@@ -1,11 +1,15 @@
 -- The kinds of terms: what a pick or a function needs, and which terms have such outputs.
 use Rattle.std.specs.Prelude.{◌≡◌, Bool, true, false, Option, Some, None, IsSome, if◌then◌else◌}
 use Rattle.zs_term.specs.declared.term.Pick.{Pick}
-use Rattle.zs_term.specs.declared.term.Pick.TheVariants.{Whole, First as PickFirst, Second as PickSecond, Size as PickSize}
+use Rattle.zs_term.specs.declared.term.Pick.TheVariants.{Whole, First as PickFirst}
+use Rattle.zs_term.specs.declared.term.Pick.TheVariants.{Second as PickSecond, Size as PickSize}
 use Rattle.zs_term.specs.declared.term.Func.{Func}
-use Rattle.zs_term.specs.declared.term.Func.TheVariants.{First, Second, Size, Merge, Const, Add, Mul}
+use Rattle.zs_term.specs.declared.term.Func.TheVariants.{First, Second, Size, Merge, Const, Add}
+use Rattle.zs_term.specs.declared.term.Func.TheVariants.{Mul}
 use Rattle.zs_term.specs.OutputKind.{OutputKind, num, pair_of, sum_of, list_of, is_same_kind}
-use Rattle.zs_term.specs.Schedule.{Schedule, leaf, two, over, Pairing, both, either, and_then, Modifier, while_input, while_output, collect_all, mapped, reset_when, is_within_limits, has_factors, has_windows}
+use Rattle.zs_term.specs.Schedule.{Schedule, leaf, two, over, Pairing, both, either, and_then}
+use Rattle.zs_term.specs.Schedule.{Modifier, while_input, while_output, collect_all, mapped}
+use Rattle.zs_term.specs.Schedule.{reset_when, is_within_limits, has_factors, has_windows}
 
 -- whether a kind is number
 abbrev pub is_num : OutputKind → Bool
@@ -65,7 +69,8 @@ answers (Mul n) (sum_of a b) = None
 answers (Mul n) (list_of a) = None
 
 -- the kind of two joined schedules, if both have one
-abbrev pub joined : (OutputKind → OutputKind → OutputKind) → Option OutputKind → Option OutputKind → Option OutputKind
+abbrev pub joined : (OutputKind → OutputKind → OutputKind)
+    → Option OutputKind → Option OutputKind → Option OutputKind
 joined f (Some a) (Some b) = Some (f a b)
 joined f (Some a) None = None
 joined f None b = None

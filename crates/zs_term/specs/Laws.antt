@@ -16,11 +16,13 @@ OneTerm = (tokens : List Token) (a b : Schedule) → Spells tokens a → Spells 
 
 -- two faults of a text are the same fault at the same place, unless one is `Memory`
 abbrev pub OneFault : Type 0
-OneFault = (text : List ℕ) (e f : TermFault) → IsCause text e → IsCause text f → (e ≡ Memory → ⊥) → (f ≡ Memory → ⊥) → e ≡ f
+OneFault = (text : List ℕ) (e f : TermFault) → IsCause text e
+    → IsCause text f → (e ≡ Memory → ⊥) → (f ≡ Memory → ⊥) → e ≡ f
 
 -- a text that spells a schedule has no fault but `Memory`
 abbrev pub OneVerdict : Type 0
-OneVerdict = (text : List ℕ) (t : Schedule) → SpellsSchedule text t → (fault : TermFault) → IsCause text fault → fault ≡ Memory
+OneVerdict = (text : List ℕ) (t : Schedule) → SpellsSchedule text t
+    → (fault : TermFault) → IsCause text fault → fault ≡ Memory
 
 -- the canonical spelling of a term spells the term
 abbrev pub CanonicalSpells : Type 0
@@ -28,4 +30,5 @@ CanonicalSpells = (t : Schedule) → HasFittingNumbers t → TextSpells (canonic
 
 -- reading the canonical spelling of a schedule returns the schedule
 abbrev pub RoundTrip : Type 0
-RoundTrip = (t : Schedule) → IsSchedule t → HasFittingNumbers t → SpellsSchedule (canonical_text t) t
+RoundTrip = (t : Schedule) → IsSchedule t
+    → HasFittingNumbers t → SpellsSchedule (canonical_text t) t

@@ -1,16 +1,23 @@
 -- The parser as a machine: its state after some tokens is what is open and what may come next. It
 -- holds for every way of composing parts (`Make`).
 use Rattle.std.specs.Prelude.{ℕ, List, [], ◌∷◌, Option, Some, None, option_map}
-use Rattle.zs_term.specs.Schedule.{Schedule, leaf, two, over, Leaf, plain, counted, exponential, Pairing, both, either, and_then, while_input, while_output, collect_all, mapped, reset_when, Modifier}
+use Rattle.zs_term.specs.Schedule.{Schedule, leaf, two, over, Leaf, plain, counted, exponential}
+use Rattle.zs_term.specs.Schedule.{Pairing, both, either, and_then, while_input, while_output}
+use Rattle.zs_term.specs.Schedule.{collect_all, mapped, reset_when, Modifier}
 use Rattle.zs_term.specs.Token.{Token, number, mark}
 use Rattle.zs_term.specs.declared.token.Mark.{Mark}
-use Rattle.zs_term.specs.declared.token.Mark.TheVariants.{PlainWord, CountedWord, ExponentialWord, Operator, MethodWord, CollectAllWord, Comparison, PieceWord, MergeWord, ScaleWord, Open, Close, Comma, Dot}
+use Rattle.zs_term.specs.declared.token.Mark.TheVariants.{PlainWord, CountedWord, ExponentialWord}
+use Rattle.zs_term.specs.declared.token.Mark.TheVariants.{Operator, MethodWord, CollectAllWord}
+use Rattle.zs_term.specs.declared.token.Mark.TheVariants.{Comparison, PieceWord, MergeWord}
+use Rattle.zs_term.specs.declared.token.Mark.TheVariants.{ScaleWord, Open, Close, Comma, Dot}
 use Rattle.zs_term.specs.declared.term.Test.{Test}
 use Rattle.zs_term.specs.declared.term.Cmp.{Cmp}
 use Rattle.zs_term.specs.declared.term.Pick.{Pick}
-use Rattle.zs_term.specs.declared.term.Pick.TheVariants.{Whole as PickWhole, First as PickFirst, Second as PickSecond, Size as PickSize}
+use Rattle.zs_term.specs.declared.term.Pick.TheVariants.{Whole as PickWhole, First as PickFirst}
+use Rattle.zs_term.specs.declared.term.Pick.TheVariants.{Second as PickSecond, Size as PickSize}
 use Rattle.zs_term.specs.declared.term.Func.{Func}
-use Rattle.zs_term.specs.declared.term.Func.TheVariants.{First, Second, Size, Merge, Const, Add, Mul}
+use Rattle.zs_term.specs.declared.term.Func.TheVariants.{First, Second, Size, Merge, Const, Add}
+use Rattle.zs_term.specs.declared.term.Func.TheVariants.{Mul}
 use Rattle.zs_term.specs.declared.forms.Plain.{Plain}
 use Rattle.zs_term.specs.declared.forms.Counted.{Counted}
 use Rattle.zs_term.specs.declared.forms.Infix.{Infix}
@@ -22,7 +29,8 @@ use Rattle.zs_term.specs.declared.forms.Action.TheVariants.{Stopping, Resetting}
 use Rattle.zs_term.specs.declared.forms.Subject.{Subject}
 use Rattle.zs_term.specs.declared.forms.Subject.TheVariants.{Input, Picked}
 use Rattle.zs_term.specs.declared.forms.Piece.{Piece}
-use Rattle.zs_term.specs.declared.forms.Piece.TheVariants.{First as PieceFirst, Second as PieceSecond, Size as PieceSize}
+use Rattle.zs_term.specs.declared.forms.Piece.TheVariants.{First as PieceFirst}
+use Rattle.zs_term.specs.declared.forms.Piece.TheVariants.{Second as PieceSecond, Size as PieceSize}
 use Rattle.zs_term.specs.declared.forms.Scale.{Scale}
 use Rattle.zs_term.specs.declared.forms.Scale.TheVariants.{Constant, Plus, Times}
 
@@ -174,7 +182,8 @@ operator_mark fs a _ = None
 abbrev pub join_mark : {A N : Type 0} → Make A N → List (Frame A) → A → Mark → Option (State A N)
 join_mark make [] a m = None
 join_mark make (left ∷ fs) a m = operator_mark fs a m
-join_mark make (right i a ∷ fs) b m = option_map (λ next. at fs next) (close_mark (after (make.join i a b)) m)
+join_mark make (right i a ∷ fs) b m =
+    option_map (λ next. at fs next) (close_mark (after (make.join i a b)) m)
 
 -- `(` or a leaf, at which a term begins
 abbrev pub start_mark : {A N : Type 0} → Make A N → List (Frame A) → Mark → Option (State A N)
@@ -187,13 +196,15 @@ after_mark make fs a Dot = Some (at fs (dotted a))
 after_mark make fs a m = join_mark make fs a m
 
 -- the state after a word or symbol, if it may come
-abbrev pub step_mark : {A N : Type 0} → Make A N → List (Frame A) → Mode A N → Mark → Option (State A N)
+abbrev pub step_mark : {A N : Type 0} → Make A N
+    → List (Frame A) → Mode A N → Mark → Option (State A N)
 step_mark make fs start m = start_mark make fs m
 step_mark make fs (after a) m = after_mark make fs a m
 step_mark make fs k m = option_map (λ next. at fs next) (inner_mark make k m)
 
 -- the state after a number, if it may come
-abbrev pub step_number : {A N : Type 0} → Make A N → List (Frame A) → Mode A N → N → Option (State A N)
+abbrev pub step_number : {A N : Type 0} → Make A N
+    → List (Frame A) → Mode A N → N → Option (State A N)
 step_number make fs k n = option_map (λ next. at fs next) (inner_number make k n)
 
 -- the state after one more token, if there is one

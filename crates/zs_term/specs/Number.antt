@@ -1,8 +1,11 @@
 -- Numbers that fit in 64 bits.
 use Rattle.std.specs.Prelude.{ℕ, nat_lt, ◌^◌, ◌<◌, Option, Some, None, if◌then◌else◌}
 use Rattle.zs_term.specs.declared.term.Func.{Func}
-use Rattle.zs_term.specs.declared.term.Func.TheVariants.{First, Second, Size, Merge, Const, Add, Mul}
-use Rattle.zs_term.specs.Schedule.{Schedule, leaf, two, over, Leaf, plain, counted, exponential, Modifier, while_input, while_output, collect_all, mapped, reset_when}
+use Rattle.zs_term.specs.declared.term.Func.TheVariants.{First, Second, Size, Merge, Const, Add}
+use Rattle.zs_term.specs.declared.term.Func.TheVariants.{Mul}
+use Rattle.zs_term.specs.Schedule.{Schedule, leaf, two, over, Leaf, plain, counted, exponential}
+use Rattle.zs_term.specs.Schedule.{Modifier, while_input, while_output, collect_all, mapped}
+use Rattle.zs_term.specs.Schedule.{reset_when}
 
 -- a number, if it fits in 64 bits
 abbrev pub fit : ℕ → Option ℕ

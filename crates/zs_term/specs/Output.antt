@@ -2,15 +2,18 @@
 use Rattle.std.specs.Prelude.{◌≡◌, ℕ, ◌+◌, ◌*◌, Bool, not, List, [], ◌∷◌, nat_lt, nat_le, nat_eq}
 use Rattle.zs_term.specs.Saturating.{saturated}
 use Rattle.zs_term.specs.declared.outputs.Out.{Out, Num, Pair', Left', Right', Items'}
-use Rattle.zs_term.specs.declared.outputs.Storage.{Storage, Own', Shared', Row_of-Out, end_of-Out, more_of-Out, items-the_row-Out}
+use Rattle.zs_term.specs.declared.outputs.Storage.{Storage, Own', Shared', Row_of-Out, end_of-Out}
+use Rattle.zs_term.specs.declared.outputs.Storage.{more_of-Out, items-the_row-Out}
 use Rattle.zs_term.specs.declared.outputs.Outs.{Outs}
 use Rattle.zs_term.specs.declared.term.Test.{Test}
 use Rattle.zs_term.specs.declared.term.Cmp.{Cmp}
 use Rattle.zs_term.specs.declared.term.Cmp.TheVariants.{Lt, Le, Eq, Ne, Gt, Ge}
 use Rattle.zs_term.specs.declared.term.Pick.{Pick}
-use Rattle.zs_term.specs.declared.term.Pick.TheVariants.{Whole, First as PickFirst, Second as PickSecond, Size as PickSize}
+use Rattle.zs_term.specs.declared.term.Pick.TheVariants.{Whole, First as PickFirst}
+use Rattle.zs_term.specs.declared.term.Pick.TheVariants.{Second as PickSecond, Size as PickSize}
 use Rattle.zs_term.specs.declared.term.Func.{Func}
-use Rattle.zs_term.specs.declared.term.Func.TheVariants.{First, Second, Size, Merge, Const, Add, Mul}
+use Rattle.zs_term.specs.declared.term.Func.TheVariants.{First, Second, Size, Merge, Const, Add}
+use Rattle.zs_term.specs.declared.term.Func.TheVariants.{Mul}
 
 -- an output, apart from memory: a number, a pair, a side of a choice or a list
 mutual

@@ -1,5 +1,6 @@
 -- The text of outputs: numbers in decimal, pairs and lists with commas, and no spaces.
-use Rattle.std.specs.Prelude.{◌≡◌, ℕ, zero, suc, List, ◌++◌, [], codes, length, take, string_bytes, String}
+use Rattle.std.specs.Prelude.{◌≡◌, ℕ, zero, suc, List, ◌++◌, [], codes, length, take, string_bytes}
+use Rattle.std.specs.Prelude.{String}
 use Rattle.std.specs.Global.{Global}
 use Rattle.std.specs.Fmt.{decimal}
 use Rattle.zs_term.specs.Output.{Output, Outputs, number, pair, left, right, listed, none, more}
@@ -8,7 +9,8 @@ abbrev mutual
   -- the text of an output
   pub output_text : Output → List ℕ
   output_text (number n) = decimal n
-  output_text (pair a b) = codes "(" ++ (output_text a ++ (codes "," ++ (output_text b ++ codes ")")))
+  output_text (pair a b) =
+      codes "(" ++ (output_text a ++ (codes "," ++ (output_text b ++ codes ")")))
   output_text (left a) = codes "Left(" ++ (output_text a ++ codes ")")
   output_text (right a) = codes "Right(" ++ (output_text a ++ codes ")")
   output_text (listed xs) = codes "[" ++ (outputs_text xs ++ codes "]")

@@ -1,9 +1,14 @@
 -- What the code stores of the terms that it has read.
-use Rattle.std.specs.Prelude.{◌≡◌, ◌≢◌, ℕ, ◌+◌, max, Bool, List, [], ◌∷◌, ◌++◌, replicate, Option, Some, None, option_map, if◌then◌else◌, MatchOption}
-use Rattle.zs_term.specs.Schedule.{Schedule, leaf, two, over, plain, counted, exponential, collect_all, mapped, schedule_of}
+use Rattle.std.specs.Prelude.{◌≡◌, ◌≢◌, ℕ, ◌+◌, max, Bool, List, [], ◌∷◌, ◌++◌, replicate, Option}
+use Rattle.std.specs.Prelude.{Some, None, option_map, if◌then◌else◌, MatchOption}
+use Rattle.zs_term.specs.Schedule.{Schedule, leaf, two, over, plain, counted, exponential}
+use Rattle.zs_term.specs.Schedule.{collect_all, mapped, schedule_of}
 use Rattle.zs_term.specs.Saturating.{saturated}
 use Rattle.zs_term.specs.Number.{fit}
-use Rattle.zs_term.specs.Machine.{Make, Frame, left, right, State, at, Mode, start, opening, counting, exp_opening, exp_counting, based, factored, closing, after, dotted, method, picking, testing, comparing, mapping, scaling, infix_pairing, test_modifier, scale_by}
+use Rattle.zs_term.specs.Machine.{Make, Frame, left, right, State, at, Mode, start, opening}
+use Rattle.zs_term.specs.Machine.{counting, exp_opening, exp_counting, based, factored, closing}
+use Rattle.zs_term.specs.Machine.{after, dotted, method, picking, testing, comparing, mapping}
+use Rattle.zs_term.specs.Machine.{scaling, infix_pairing, test_modifier, scale_by}
 use Rattle.zs_term.specs.declared.term.Cmp.{Cmp}
 use Rattle.zs_term.specs.declared.term.Func.{Func}
 use Rattle.zs_term.specs.declared.forms.Infix.{Infix}
@@ -15,7 +20,10 @@ use Rattle.zs_term.specs.declared.part.Part.{Part}
 use Rattle.zs_term.specs.declared.parser.Parser.{Parser}
 use Rattle.zs_term.specs.declared.parser.Joined.{Joined}
 use Rattle.zs_term.specs.declared.parser.Mode.{Mode as ModeKept}
-use Rattle.zs_term.specs.declared.parser.Mode.TheVariants.{Start, Opening, Counting, ExpOpening, ExpCounting, Based, Factored, Closing, After, Dotted, Method, Picking, Testing, Comparing, Mapping, Scaling}
+use Rattle.zs_term.specs.declared.parser.Mode.TheVariants.{Start, Opening, Counting, ExpOpening}
+use Rattle.zs_term.specs.declared.parser.Mode.TheVariants.{ExpCounting, Based, Factored, Closing}
+use Rattle.zs_term.specs.declared.parser.Mode.TheVariants.{After, Dotted, Method, Picking, Testing}
+use Rattle.zs_term.specs.declared.parser.Mode.TheVariants.{Comparing, Mapping, Scaling}
 
 -- the sizes of a term, saturated at 2^64 - 1, and the term if terms are built and its numbers fit
 pub record Kept : Type 0 where
@@ -50,23 +58,28 @@ test_weight (Picked Resetting p) w = one_more (saturated (w + w))
 -- two parts joined by an operator
 abbrev pub keep_join : Infix → Kept → Kept → Kept
 keep_join i a b =
-    keep_above (max a.depth b.depth) (one_more (saturated (a.weight + b.weight))) (with_both (two (infix_pairing i)) a.schedule b.schedule)
+    keep_above (max a.depth b.depth) (one_more (saturated (a.weight + b.weight)))
+    (with_both (two (infix_pairing i)) a.schedule b.schedule)
 
 -- a part under a test
 abbrev pub keep_test : Kept → Subject → Cmp → Option ℕ → Kept
-keep_test a s c n = keep_above a.depth (test_weight s a.weight) (with_both (λ t k. over t (test_modifier s (record { cmp = c; than = k }))) a.schedule n)
+keep_test a s c n = keep_above a.depth (test_weight s a.weight)
+    (with_both (λ t k. over t (test_modifier s (record { cmp = c; than = k }))) a.schedule n)
 
 -- a part under `collectAll`
 abbrev pub keep_collect : Kept → Kept
-keep_collect a = keep_above a.depth (one_more a.weight) (option_map (λ t. over t collect_all) a.schedule)
+keep_collect a =
+    keep_above a.depth (one_more a.weight) (option_map (λ t. over t collect_all) a.schedule)
 
 -- a part under a function without a number
 abbrev pub keep_apply : Kept → Func → Kept
-keep_apply a f = keep_above a.depth (one_more a.weight) (option_map (λ t. over t (mapped f)) a.schedule)
+keep_apply a f =
+    keep_above a.depth (one_more a.weight) (option_map (λ t. over t (mapped f)) a.schedule)
 
 -- a part under a function with a number
 abbrev pub keep_scale : Kept → Scale → Option ℕ → Kept
-keep_scale a g n = keep_above a.depth (one_more a.weight) (with_both (λ t k. over t (mapped (scale_by g k))) a.schedule n)
+keep_scale a g n = keep_above a.depth (one_more a.weight)
+    (with_both (λ t k. over t (mapped (scale_by g k))) a.schedule n)
 
 -- composes the sizes of terms, and the terms if they are built
 abbrev pub keep : Bool → Make Kept (Option ℕ)
@@ -84,7 +97,11 @@ keep build = record {
 
 -- a stored part, as plain data
 abbrev pub kept_of : Part → Kept
-kept_of p = record { depth = p.depth; weight = p.weight; schedule = option_map (λ b. schedule_of b.value) p.term }
+kept_of p = record {
+  depth = p.depth;
+  weight = p.weight;
+  schedule = option_map (λ b. schedule_of b.value) p.term;
+}
 
 -- innermost forms whose operator wasn't read yet
 abbrev pub bare_onto : ℕ → List (Frame Kept) → List (Frame Kept)
@@ -128,4 +145,5 @@ Reaches parser next state = option_map (λ mode. state_in parser mode) next ≡ 
 
 -- the part is the whole term of the state; without a part the state has no whole term
 abbrev pub Finishes : State Kept (Option ℕ) → Option Part → Type 0
-Finishes state found = MatchOption found ((a : Kept) → state ≢ at [] (after a)) (λ part. state ≡ at [] (after (kept_of part)))
+Finishes state found = MatchOption found ((a : Kept) → state ≢ at [] (after a))
+    (λ part. state ≡ at [] (after (kept_of part)))

@@ -1,5 +1,6 @@
 -- What has been read of a text so far.
-use Rattle.std.specs.Prelude.{◌≡◌, ℕ, ◌≤◌, Bool, List, [], ◌++◌, length, drop, Option, Some, None, if◌then◌else◌}
+use Rattle.std.specs.Prelude.{◌≡◌, ℕ, ◌≤◌, Bool, List, [], ◌++◌, length, drop, Option, Some, None}
+use Rattle.std.specs.Prelude.{if◌then◌else◌}
 use Rattle.zs_term.specs.Token.{Token, Placed, Lexed, lex, lexed}
 use Rattle.zs_term.specs.Machine.{State, at, start, run, value}
 use Rattle.zs_term.specs.Schedule.{Schedule}
@@ -11,7 +12,8 @@ abbrev pub behind_tokens : List Placed → Lexed → Lexed
 behind_tokens done rest = record { tokens = done ++ rest.tokens; stop = rest.stop }
 
 -- the tokens before this place lead to the state, and `huge` is the first number above 2^64 - 1
-pub record SoFar (build : Bool) (text : List ℕ) (s : State Kept (Option ℕ)) (huge : Option ℕ) (from : ℕ) : Type 0 where
+pub record SoFar (build : Bool) (text : List ℕ)
+    (s : State Kept (Option ℕ)) (huge : Option ℕ) (from : ℕ) : Type 0 where
   pub done : List Placed
   pub shape : lexed text ≡ behind_tokens done (lex 0 from (drop from text))
   pub goes : run (keep build) (Some (at [] start)) (tokens_of done) ≡ Some s
@@ -25,4 +27,5 @@ huge_with None place t = if is_huge t then Some place else None
 
 -- the text spells a term; `kept` is stored of it, and `huge` is its first number above 2^64 - 1
 abbrev pub IsWhole : Bool → List ℕ → Kept → Option ℕ → Type 0
-IsWhole build text kept huge = (t : Schedule) × TextSpells text t × (value (keep build) t ≡ kept) × (huge ≡ first_huge (lexed text).tokens)
+IsWhole build text kept huge = (t : Schedule) × TextSpells text t
+    × (value (keep build) t ≡ kept) × (huge ≡ first_huge (lexed text).tokens)

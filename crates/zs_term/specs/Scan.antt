@@ -15,11 +15,13 @@ IsLexeme (Mark m) t = t ≡ mark m
 
 -- the lexer found this token at the front, or nothing
 abbrev pub IsFoundAs : Option (Token × ℕ) → List ℕ → Found → Type 0
-IsFoundAs found bytes f = (t : Token) × IsLexeme f.lexeme t × (found ≡ Some (t, f.len)) × (0 < f.len) × (f.len ≤ length bytes)
+IsFoundAs found bytes f = (t : Token) × IsLexeme f.lexeme t
+    × (found ≡ Some (t, f.len)) × (0 < f.len) × (f.len ≤ length bytes)
 
 -- the lexer found what comes next in the text from a place on
 abbrev pub Scans : List ℕ → ℕ → Scan → Type 0
 Scans text from End = lex 0 from (drop from text) ≡ nothing
 Scans text from (Stuck at) = lex 0 from (drop from text) ≡ stuck at
 Scans text from (Next at lexeme end) =
-    (t : Token) × IsLexeme lexeme t × (lex 0 from (drop from text) ≡ with_token at t (lex 0 end (drop end text))) × (from < end) × (end ≤ length text)
+    (t : Token) × IsLexeme lexeme t × (lex 0 from (drop from text)
+    ≡ with_token at t (lex 0 end (drop end text))) × (from < end) × (end ≤ length text)

@@ -4,14 +4,25 @@
 -- leaf or operator.
 use Rattle.std.specs.Prelude.{ℕ, ◌+◌, ◌*◌, max, Bool, true, ◌&&◌, nat_le}
 use Rattle.zs_term.specs.declared.term.Term.{Term}
-use Rattle.zs_term.specs.declared.term.Term.TheVariants.{Forever, Recurs, Spaced, Fixed, Exponential, Fibonacci, Identity, Elapsed, Linear, Windowed, Both', Either', AndThen', WhileInput', WhileOutput', CollectAll', Map', ResetWhen'}
+use Rattle.zs_term.specs.declared.term.Term.TheVariants.{Forever, Recurs, Spaced, Fixed}
+use Rattle.zs_term.specs.declared.term.Term.TheVariants.{Exponential, Fibonacci, Identity, Elapsed}
+use Rattle.zs_term.specs.declared.term.Term.TheVariants.{Linear, Windowed, Both', Either', AndThen'}
+use Rattle.zs_term.specs.declared.term.Term.TheVariants.{WhileInput', WhileOutput', CollectAll'}
+use Rattle.zs_term.specs.declared.term.Term.TheVariants.{Map', ResetWhen'}
 use Rattle.zs_term.specs.declared.term.Test.{Test}
 use Rattle.zs_term.specs.declared.term.Pick.{Pick}
 use Rattle.zs_term.specs.declared.term.Func.{Func}
 use Rattle.zs_term.specs.declared.forms.Plain.{Plain}
-use Rattle.zs_term.specs.declared.forms.Plain.TheVariants.{Forever as PlainForever, Identity as PlainIdentity, Elapsed as PlainElapsed}
+use Rattle.zs_term.specs.declared.forms.Plain.TheVariants.{Forever as PlainForever}
+use Rattle.zs_term.specs.declared.forms.Plain.TheVariants.{Identity as PlainIdentity}
+use Rattle.zs_term.specs.declared.forms.Plain.TheVariants.{Elapsed as PlainElapsed}
 use Rattle.zs_term.specs.declared.forms.Counted.{Counted}
-use Rattle.zs_term.specs.declared.forms.Counted.TheVariants.{Recurs as CountedRecurs, Spaced as CountedSpaced, Fixed as CountedFixed, Fibonacci as CountedFibonacci, Linear as CountedLinear, Windowed as CountedWindowed}
+use Rattle.zs_term.specs.declared.forms.Counted.TheVariants.{Recurs as CountedRecurs}
+use Rattle.zs_term.specs.declared.forms.Counted.TheVariants.{Spaced as CountedSpaced}
+use Rattle.zs_term.specs.declared.forms.Counted.TheVariants.{Fixed as CountedFixed}
+use Rattle.zs_term.specs.declared.forms.Counted.TheVariants.{Fibonacci as CountedFibonacci}
+use Rattle.zs_term.specs.declared.forms.Counted.TheVariants.{Linear as CountedLinear}
+use Rattle.zs_term.specs.declared.forms.Counted.TheVariants.{Windowed as CountedWindowed}
 use Rattle.zs_term.specs.declared.limits.TheConstants.{MAX_DEPTH, MAX_WEIGHT}
 
 -- a schedule without parts: a word, a word with a number, or `exponential(base, factor)`

@@ -1,13 +1,15 @@
 -- What the code takes a term apart into, and how long it takes to free one.
 use Rattle.std.specs.Prelude.{ℕ, ◌+◌, ◌*◌, List}
-use Rattle.zs_term.specs.Schedule.{Schedule, leaf, two, over, plain, counted, exponential, collect_all, mapped, schedule_of}
+use Rattle.zs_term.specs.Schedule.{Schedule, leaf, two, over, plain, counted, exponential}
+use Rattle.zs_term.specs.Schedule.{collect_all, mapped, schedule_of}
 use Rattle.zs_term.specs.Machine.{infix_pairing, test_modifier}
 use Rattle.zs_term.specs.Canonical.{while_input_text, while_output_text, reset_when_text}
 use Rattle.zs_term.specs.declared.forms.Action.TheVariants.{Stopping, Resetting}
 use Rattle.zs_term.specs.declared.forms.Subject.{Subject}
 use Rattle.zs_term.specs.declared.forms.Subject.TheVariants.{Input, Picked}
 use Rattle.zs_term.specs.declared.forms.Shape.{Shape}
-use Rattle.zs_term.specs.declared.forms.Shape.TheVariants.{Plain, Counted, Exponential, Joined, Tested, Collected, Mapped}
+use Rattle.zs_term.specs.declared.forms.Shape.TheVariants.{Plain, Counted, Exponential, Joined}
+use Rattle.zs_term.specs.declared.forms.Shape.TheVariants.{Tested, Collected, Mapped}
 
 -- the schedule of this shape
 abbrev pub shape_schedule : Shape → Schedule

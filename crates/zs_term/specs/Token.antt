@@ -1,15 +1,21 @@
 -- The tokens of a text: words, numbers and symbols, separated by spaces (32). Other white space
 -- isn't allowed.
-use Rattle.std.specs.Prelude.{ℕ, zero, suc, ◌+◌, ◌-◌, ◌==◌, ◌&&◌, nat_lt, List, [], ◌∷◌, length, take_while, slice_index, Option, Some, None, if◌then◌else◌, codes}
+use Rattle.std.specs.Prelude.{ℕ, zero, suc, ◌+◌, ◌-◌, ◌==◌, ◌&&◌, nat_lt, List, [], ◌∷◌, length}
+use Rattle.std.specs.Prelude.{take_while, slice_index, Option, Some, None, if◌then◌else◌, codes}
 use Rattle.std.specs.Char.{is_ascii_alphabetic, is_ascii_digit}
 use Rattle.std.specs.Str.{bytes_eq}
 use Rattle.std.specs.Str.Parse.{digits_value}
 use Rattle.zs_term.specs.declared.token.Mark.{Mark}
-use Rattle.zs_term.specs.declared.token.Mark.TheVariants.{PlainWord, CountedWord, ExponentialWord, Operator, MethodWord, CollectAllWord, Comparison, PieceWord, MergeWord, ScaleWord, OtherWord, Open, Close, Comma, Dot}
+use Rattle.zs_term.specs.declared.token.Mark.TheVariants.{PlainWord, CountedWord, ExponentialWord}
+use Rattle.zs_term.specs.declared.token.Mark.TheVariants.{Operator, MethodWord, CollectAllWord}
+use Rattle.zs_term.specs.declared.token.Mark.TheVariants.{Comparison, PieceWord, MergeWord}
+use Rattle.zs_term.specs.declared.token.Mark.TheVariants.{ScaleWord, OtherWord, Open, Close, Comma}
+use Rattle.zs_term.specs.declared.token.Mark.TheVariants.{Dot}
 use Rattle.zs_term.specs.declared.forms.Plain.{Plain}
 use Rattle.zs_term.specs.declared.forms.Plain.TheVariants.{Forever, Identity, Elapsed}
 use Rattle.zs_term.specs.declared.forms.Counted.{Counted}
-use Rattle.zs_term.specs.declared.forms.Counted.TheVariants.{Recurs, Spaced, Fixed, Fibonacci, Linear, Windowed}
+use Rattle.zs_term.specs.declared.forms.Counted.TheVariants.{Recurs, Spaced, Fixed, Fibonacci}
+use Rattle.zs_term.specs.declared.forms.Counted.TheVariants.{Linear, Windowed}
 use Rattle.zs_term.specs.declared.forms.Infix.TheVariants.{Both, Either, AndThen}
 use Rattle.zs_term.specs.declared.forms.Method.{Method}
 use Rattle.zs_term.specs.declared.forms.Method.TheVariants.{WhileInput, WhileOutput, Map, ResetWhen}
@@ -83,7 +89,8 @@ mark_or as_mark None other = other
 
 -- the mark of a word
 abbrev pub word_mark : List ℕ → Mark
-word_mark w = mark_or PlainWord (plain_of w) (mark_or CountedWord (counted_of w) (mark_or MethodWord (method_of w) (other_mark w)))
+word_mark w = mark_or PlainWord (plain_of w)
+    (mark_or CountedWord (counted_of w) (mark_or MethodWord (method_of w) (other_mark w)))
 
 -- a symbol of two bytes: 95 is `_`, 49 `1`, 38 `&`, 124 `|`, 60 `<`, 61 `=`, 33 `!`, 62 `>`
 abbrev pub pair_mark : ℕ → ℕ → Option Mark
@@ -113,13 +120,15 @@ single_mark a =
 
 -- the letters at the front, as a word
 abbrev pub word_at : List ℕ → Token × ℕ
-word_at bytes = let letters = take_while is_ascii_alphabetic bytes in (mark (word_mark letters), length letters)
+word_at bytes = let letters = take_while is_ascii_alphabetic bytes in
+    (mark (word_mark letters), length letters)
 
 -- the digits at the front; several of them don't begin with 48, a `0`
 abbrev pub number_at : List ℕ → Option (Token × ℕ)
 number_at bytes =
     let digits = take_while is_ascii_digit bytes in
-    if nat_lt 1 (length digits) && slice_index digits 0 == 48 then None else Some (number (digits_value 10 digits), length digits)
+    if nat_lt 1 (length digits) && slice_index digits 0 == 48 then None
+    else Some (number (digits_value 10 digits), length digits)
 
 -- of two symbols that fit, the longer one
 abbrev pub longest : Option Mark → Option Mark → Option (Token × ℕ)
@@ -129,7 +138,8 @@ longest None None = None
 
 -- the symbol at the front
 abbrev pub symbol_at : List ℕ → Option (Token × ℕ)
-symbol_at bytes = longest (pair_mark (slice_index bytes 0) (slice_index bytes 1)) (single_mark (slice_index bytes 0))
+symbol_at bytes = longest (pair_mark (slice_index bytes 0) (slice_index bytes 1))
+    (single_mark (slice_index bytes 0))
 
 -- the token at the front, and its length in bytes
 abbrev pub token_at : List ℕ → Option (Token × ℕ)
@@ -159,7 +169,8 @@ stuck at = record { tokens = []; stop = Some at }
 
 -- one more token before the rest
 abbrev pub with_token : ℕ → Token → Lexed → Lexed
-with_token at t rest = record { tokens = record { place = at; token = t } ∷ rest.tokens; stop = rest.stop }
+with_token at t rest =
+    record { tokens = record { place = at; token = t } ∷ rest.tokens; stop = rest.stop }
 
 -- the token at this place, and those after it
 abbrev pub next_token : ℕ → Option (Token × ℕ) → (ℕ → Lexed) → Lexed

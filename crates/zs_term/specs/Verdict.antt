@@ -1,8 +1,10 @@
 -- What reading a text returns, as a function that computes: its schedule or its one fault.
 -- The law `verdict_is_the_one` of `src/laws.rt` ties it to the relations of `Causes`: the schedule
 -- is the one that the text spells, and the fault is the first in the order of `TermFault`.
-use Rattle.std.specs.Prelude.{◌≡◌, ◌≢◌, ℕ, List, [], ◌∷◌, length, Option, Some, None, if◌then◌else◌, Result, Ok, Err, MatchResult}
-use Rattle.zs_term.specs.Schedule.{Schedule, schedule_of, is_within_limits, has_factors, has_windows}
+use Rattle.std.specs.Prelude.{◌≡◌, ◌≢◌, ℕ, List, [], ◌∷◌, length, Option, Some, None, if◌then◌else◌}
+use Rattle.std.specs.Prelude.{Result, Ok, Err, MatchResult}
+use Rattle.zs_term.specs.Schedule.{Schedule, schedule_of, is_within_limits, has_factors}
+use Rattle.zs_term.specs.Schedule.{has_windows}
 use Rattle.zs_term.specs.OutputKind.{OutputKind}
 use Rattle.zs_term.specs.Kinds.{kind_of}
 use Rattle.zs_term.specs.Token.{Placed, lexed}
@@ -10,7 +12,8 @@ use Rattle.zs_term.specs.Machine.{Frame, Mode, start, after, State, at, step, pl
 use Rattle.zs_term.specs.Causes.{first_huge, SpellsSchedule, IsCause}
 use Rattle.zs_term.specs.declared.term.Term.{Term}
 use Rattle.zs_term.specs.declared.fault.TermFault.{TermFault}
-use Rattle.zs_term.specs.declared.fault.TermFault.TheVariants.{NoTerm, TooBig, BadNumber, BadFactor, NoKind, BadWindow, Memory}
+use Rattle.zs_term.specs.declared.fault.TermFault.TheVariants.{NoTerm, TooBig, BadNumber, BadFactor}
+use Rattle.zs_term.specs.declared.fault.TermFault.TheVariants.{NoKind, BadWindow, Memory}
 
 -- the whole term if no form is open, else the place after all tokens
 abbrev pub finished_at : ℕ → List (Frame Schedule) → Mode Schedule ℕ → Result Schedule ℕ
@@ -18,7 +21,8 @@ finished_at end [] (after t) = Ok t
 finished_at end fs mode = Err end
 
 -- continues from a state, or stops at the place at which no spelling can go on
-abbrev pub go_on : ℕ → Option (State Schedule ℕ) → (State Schedule ℕ → Result Schedule ℕ) → Result Schedule ℕ
+abbrev pub go_on : ℕ → Option (State Schedule ℕ)
+    → (State Schedule ℕ → Result Schedule ℕ) → Result Schedule ℕ
 go_on place None rest = Err place
 go_on place (Some s) rest = rest s
 
@@ -26,7 +30,8 @@ go_on place (Some s) rest = rest s
 abbrev pub term_from : ℕ → Option ℕ → State Schedule ℕ → List Placed → Result Schedule ℕ
 term_from end (Some place) s [] = Err place
 term_from end None s [] = finished_at end s.frames s.mode
-term_from end stop s (p ∷ ps) = go_on p.place (step plant (Some s) p.token) (λ next. term_from end stop next ps)
+term_from end stop s (p ∷ ps) =
+    go_on p.place (step plant (Some s) p.token) (λ next. term_from end stop next ps)
 
 -- the term that a text spells, or the place that `NoTerm` reports
 abbrev pub spelled_term : List ℕ → Result Schedule ℕ
@@ -62,8 +67,10 @@ verdict_of text = judged text (spelled_term text)
 -- a result is this verdict: the term of its schedule, or its fault; `Memory` may come instead
 abbrev pub IsVerdict : Result Schedule TermFault → Result Term TermFault → Type 0
 IsVerdict verdict result =
-    MatchResult result (λ term. verdict ≡ Ok (schedule_of term)) (λ fault. fault ≢ Memory → verdict ≡ Err fault)
+    MatchResult result (λ term. verdict ≡ Ok (schedule_of term))
+    (λ fault. fault ≢ Memory → verdict ≡ Err fault)
 
 -- the computed schedule is the one that the text spells, and the computed fault is the first
 abbrev pub VerdictIsTheOne : Type 0
-VerdictIsTheOne = (text : List ℕ) → MatchResult (verdict_of text) (λ t. SpellsSchedule text t) (λ fault. IsCause text fault × (fault ≡ Memory → ⊥))
+VerdictIsTheOne = (text : List ℕ) → MatchResult (verdict_of text)
+    (λ t. SpellsSchedule text t) (λ fault. IsCause text fault × (fault ≡ Memory → ⊥))
