@@ -1,5 +1,5 @@
 //! Polls batches on several threads.
-ghost use Rattle.std.specs.Prelude.{◌≡◌, ◌≢◌, ◌+◌, ◌≤◌, All, IfOk, IfErr, OnOk, length};
+ghost use Rattle.std.specs.Prelude.{◌≡◌, ◌≢◌, ◌+◌, ◌≤◌, All, IfOk, IfErr, length};
 ghost use Rattle.std.specs.Vec.{vec_capacity};
 ghost use Rattle.zs_pool.specs.Limits.{max_workers, max_tasks};
 ghost use Rattle.zs_pool.specs.Batches.{AllPollable, AreNumbered, IsEachOnce, tasks_in};
@@ -94,15 +94,25 @@ fn run_scoped<G: Gate, R: Threads + Wait + Sync>(
         IsWhole shared.entry.moment rights c.served.rights c.served.overflow c.messages.items) }
     ensures fault { IfErr result (λ e. e ≢ Full) }
 {
+    let moment = shared.moment;
     thread::scope(
         thread::scope_env(),
         rt,
         move |scope| -> Result<Collected, PoolFault>
-            requires first { IsFirst shared helpers rights }
-            ensures whole { IfOk result (λ c. IsWhole shared.entry.moment rights c.served.rights
-                c.served.overflow c.messages.items) }
+            requires first { IsFirst
+                (record {
+                  gate = shared.gate;
+                  board = shared.board;
+                  shelf = shared.shelf;
+                  tally = shared.tally;
+                  moment = moment;
+                  tasks = shared.tasks;
+                  batches = shared.batches;
+                }) helpers rights }
+            ensures whole { IfOk result (λ c.
+                IsWhole moment rights c.served.rights c.served.overflow c.messages.items) }
             ensures fault { IfErr result (λ e. e ≢ Full) }
-        { shared.run(rt, scope, alloc, helpers, rights) },
+        { Shared { moment, ..shared }.run(rt, scope, alloc, helpers, rights) },
     )
 }
 
@@ -135,7 +145,7 @@ pub(crate) fn poll_shared<'s, G: Gate, R: Threads + Wait + Sync>(
     requires pollable { AllPollable now work.batches.items }
     ensures each { IfOk result (λ v. All (IsPollAmong now work.batches.items) v.items) }
     ensures whole { IfOk result (λ v. IsEachOnce (length work.batches.items) (numbers_of v.items)) }
-    ensures counted { OnOk result (HasCounted seat.old (tasks_in work.batches.items) seat.new) }
+    ensures counted { IfOk result (λ _. HasCounted seat.old (tasks_in work.batches.items) seat.new) }
     ensures fault { IfErr result (λ e. e ≢ Full) }
 {
     let size = work.batches.len();
