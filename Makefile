@@ -7,7 +7,7 @@ LIBRARY = crates/zsched_c/out
 .PHONY: library install
 
 library:
-	tools/make-library --out '$(LIBRARY)'
+	build/make-library --out '$(LIBRARY)'
 
 install:
-	tools/install-library --library '$(LIBRARY)' --destdir '$(DESTDIR)' --prefix '$(PREFIX)' --libdir '$(LIBDIR)'
+	build/install-library --library '$(LIBRARY)' --destdir '$(DESTDIR)' --prefix '$(PREFIX)' --libdir '$(LIBDIR)'

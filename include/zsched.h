@@ -6,7 +6,7 @@
  * stores anything, so the list is the whole state: store it, and go on after a restart. If the list would grow too long, use
  * zs_compile and zs_program_step: a program and its state have a fixed size.
  *
- * Link libzsched.a or libzsched.so, which tools/make-library builds; both need only the C library. docs/LIBRARY.md says what
+ * Link libzsched.a or libzsched.so, which build/make-library builds; both need only the C library. docs/LIBRARY.md says what
  * is proved of these calls.
  *
  * The caller must ensure what no call can test:

@@ -113,7 +113,7 @@ def library():
     held = os.open(TOP / "tests", os.O_RDONLY)
     try:
         fcntl.flock(held, fcntl.LOCK_EX)
-        subprocess.run([TOP / "tools" / "make-library"], check=True, stdout=subprocess.DEVNULL)
+        subprocess.run([TOP / "build" / "make-library"], check=True, stdout=subprocess.DEVNULL)
     finally:
         os.close(held)
     return TOP / "crates" / "zsched_c" / "out"

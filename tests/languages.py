@@ -76,7 +76,7 @@ def are_kept(waits, moments):
 
 
 def built_library(folder):
-    """The place of the library that tools/make-library made in a folder."""
+    """The place of the library that build/make-library made in a folder."""
     return Place(TOP / "include", folder, ["-I", TOP / "include", folder / "libzsched.a"])
 
 

@@ -2,7 +2,7 @@
 """Runs `rt ci`: proofs, tests and edits of the crates, and the programs. The toolchain may skip what passed on this
 machine over the same files; --anew repeats everything. `rt ci` passes if an edit doesn't apply or can't be read. This
 fails then, and if one of the files in crates/*/must-fail isn't reported as rejected. It notes the libraries that were
-built, for tools/make-library and `rt check`. The last line is 'N passed, M failed'."""
+built, for build/make-library and `rt check`. The last line is 'N passed, M failed'."""
 import os
 import re
 import signal

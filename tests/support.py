@@ -11,7 +11,7 @@ import sys
 from unittest import mock
 
 TOP = pathlib.Path(__file__).resolve().parent.parent
-sys.path.insert(0, str(TOP / "tools"))
+sys.path[:0] = [str(TOP / "build"), str(TOP / "tools")]
 
 ZSCHED = TOP / "crates" / "zsched" / "out" / "zsched"
 POPULATION = TOP / "crates" / "zsched_population" / "out" / "zsched_population"

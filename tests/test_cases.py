@@ -1,7 +1,7 @@
 """Runs the cases that are files: the folders of tests/cases/, and the plans of examples/ and tests/plans/.
 
 A folder tests/cases/TOOL/NAME has `cmd`, a few lines for bash. They run in a copy of the folder, with the commands of
-tools/ and the built programs first in PATH, and with ZSCHED, ZSCHED_BOUNDS, ZSCHED_POPULATION and TOP set. The files
+build/ and tools/ and the built programs first in PATH, and with ZSCHED, ZSCHED_BOUNDS, ZSCHED_POPULATION and TOP set. The files
 `stdin`, `stdout`, `stderr` (none: empty) and `status` (none: 0) say what it gets and what it has to give. Each file of
 `out/` is one that the run has to write. Each line of `needs` is a program that few machines have, and its Debian package:
 such a case is marked `full`. A plan has its report beside it; it runs as it is, and under twelve cuts. Expected files are
@@ -66,7 +66,7 @@ def programs(zsched, population, bounds, tmp_path_factory):
     for path, name in [(zsched, "zsched"), (population, "zsched-population"), (bounds, "zsched-bounds")]:
         (room / name).symlink_to(path)
     variables = {"ZSCHED": zsched, "ZSCHED_POPULATION": population, "ZSCHED_BOUNDS": bounds, "TOP": TOP, "COLUMNS": 80,
-                 "PATH": f"{TOP / 'tools'}:{room}:{os.environ['PATH']}"}
+                 "PATH": f"{TOP}/build:{TOP}/tools:{room}:{os.environ['PATH']}"}
     return os.environ | {name: str(value) for name, value in variables.items()}
 
 

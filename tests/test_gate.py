@@ -49,7 +49,8 @@ def tree(tmp_path):
     (tmp_path / "tests").mkdir()
     for name in ["pytest.ini", "tests/conftest.py", "tests/support.py", "tests/proofs.py", "HANDLES"]:
         shutil.copy(TOP / name, tmp_path / name)
-    shutil.copytree(TOP / "tools", tmp_path / "tools")
+    for name in ["build", "tools"]:
+        shutil.copytree(TOP / name, tmp_path / name)
     (tmp_path / "tests/test_a.py").write_text(
         "import pytest\n@pytest.mark.parametrize('it', range(3))\ndef test_it(it): pass\n")
     (tmp_path / "tests/floors.txt").write_text("test_a.py 3\n")

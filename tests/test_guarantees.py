@@ -1,4 +1,4 @@
-"""docs/GUARANTEES.md names what exists: each call with its clauses, each definition, test and file. tools/guarantees prints
+"""docs/GUARANTEES.md names what exists: each call with its clauses, each definition, test and file. build/guarantees prints
 the evidence for a row, and reads the page for this test too."""
 import re
 import runpy
@@ -8,7 +8,7 @@ import pytest
 
 from support import TOP
 
-guarantees = types.SimpleNamespace(**runpy.run_path(str(TOP / "tools" / "guarantees")))
+guarantees = types.SimpleNamespace(**runpy.run_path(str(TOP / "build" / "guarantees")))
 
 ROWS = [(crate, *cells) for crate, cells in guarantees.rows()]
 CRATES = sorted({crate for crate, *_ in ROWS})

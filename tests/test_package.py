@@ -83,11 +83,11 @@ def made_debs(folder, library):
     folder.mkdir()
     env = {**os.environ, "DEBEMAIL": "zsched@example.org"}
     return [pathlib.Path(line) for line in
-            output_of([TOP / "tools/make-library-debs", "--out", folder, "--library", library], env=env).split()]
+            output_of([TOP / "build/make-library-debs", "--out", folder, "--library", library], env=env).split()]
 
 
 def install(root):
-    output_of([TOP / "tools/install-library", "--library", root.made, "--destdir", root.path, "--prefix", "/usr"])
+    output_of([TOP / "build/install-library", "--library", root.made, "--destdir", root.path, "--prefix", "/usr"])
     return root.path / "usr/lib"
 
 

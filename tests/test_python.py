@@ -183,7 +183,7 @@ def test_threads_may_call_at_once(zsched):
 def test_a_missing_library_names_the_command_that_makes_it(tmp_path):
     words = [sys.executable, "-B", "-c", "try:\n import zsched; zsched.check('forever')\nexcept OSError as fault:\n print(fault)"]
     said = ran(words, tmp_path, ZSCHED_LIBRARY="/nowhere/libzsched.so", PYTHONPATH=BINDINGS / "python")
-    assert re.match(r"/nowhere/libzsched.so: .* tools/make-library", said)
+    assert re.match(r"/nowhere/libzsched.so: .* build/make-library", said)
 
 
 @pytest.mark.parametrize("text, more, times, error, wanted, slept", [

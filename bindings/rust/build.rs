@@ -1,5 +1,5 @@
 //! Links libzsched.a: the one in the folder that ZSCHED_LIBRARY_DIR names, else the one of the
-//! packaged crate, else the one that tools/make-library made in this tree.
+//! packaged crate, else the one that build/make-library made in this tree.
 use std::env;
 use std::path::PathBuf;
 
@@ -16,7 +16,7 @@ fn main() {
     let library = folder.join(NAME);
     println!("cargo:rerun-if-changed={}", library.display());
     if !library.exists() {
-        println!("cargo:warning=there is no {}: build it by tools/make-library, or name its folder in ZSCHED_LIBRARY_DIR", library.display());
+        println!("cargo:warning=there is no {}: build it by build/make-library, or name its folder in ZSCHED_LIBRARY_DIR", library.display());
     }
     let target = env::var("TARGET").unwrap_or_default();
     if !target.starts_with("x86_64-") || !target.contains("-linux-") {

@@ -178,7 +178,7 @@ public final class Schedule {
             return Native.load(System.getProperty("zsched.library", "zsched"), Calls.class);
         } catch (UnsatisfiedLinkError fault) {
             throw new UnsatisfiedLinkError(fault.getMessage() + "\nzsched: install libzsched1, or build libzsched.so by "
-                + "tools/make-library and name its folder in the property jna.library.path");
+                + "build/make-library and name its folder in the property jna.library.path");
         }
     }
 

@@ -10,7 +10,7 @@ next one may begin. `bounds` returns how often and how long a schedule retries a
 input. These results are proved; the sleeping is not.
 
 The library is libzsched.so: the file that the variable ZSCHED_LIBRARY names, else the one in the
-folder of this file, else the one that tools/make-library made in this tree, else the system's."""
+folder of this file, else the one that build/make-library made in this tree, else the system's."""
 from .budgets import Budget
 from .faults import Fault, ScheduleFault
 from .retries import Attempt, Retrying, Statistics, retrying

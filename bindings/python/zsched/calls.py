@@ -5,7 +5,7 @@ import os
 import pathlib
 
 SONAME = "libzsched.so.1"
-MISSING = ("{fault}: the library is missing. Install libzsched1, or build it by tools/make-library in a tree of zsched, and "
+MISSING = ("{fault}: the library is missing. Install libzsched1, or build it by build/make-library in a tree of zsched, and "
            "name the built libzsched.so in ZSCHED_LIBRARY")
 
 

@@ -1,5 +1,5 @@
 """The Rattle toolchain: which crates crates.txt lists, how one is checked, and the libraries that `rt ci` proved and
-left in the checkout. tools/make-library reads those below zsched_c and never writes them."""
+left in the checkout. build/make-library reads those below zsched_c and never writes them."""
 import dataclasses
 import fcntl
 import hashlib
@@ -103,7 +103,7 @@ def lock(crates, say):
 
 def sources_sum(crate=LIBRARY):
     """The checksum of everything that a crate's program or library is proved and built from."""
-    words = [TOP / "tools" / "sources-sum", crate]
+    words = [TOP / "build" / "sources-sum", crate]
     return subprocess.run(words, capture_output=True, text=True, check=True).stdout.strip()
 
 

@@ -74,11 +74,11 @@ def symbols():
 
 
 def made_library(folder=MADE):
-    """The shared library and the archive that tools/make-library made."""
+    """The shared library and the archive that build/make-library made."""
     found = [folder / "libzsched.so", folder / "libzsched.a"]
     for path in found:
         if not path.exists():
-            raise Refused(f"{path} is missing: tools/make-library makes it")
+            raise Refused(f"{path} is missing: build/make-library makes it")
     return found
 
 
