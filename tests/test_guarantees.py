@@ -39,13 +39,15 @@ def test_each_crate_with_promises_has_a_table():
 
 
 @each_row
-def test_a_promise_names_calls_that_have_its_clauses(crate, promise, calls, definitions):
+def test_a_promise_is_short_and_names_calls_that_have_its_clauses(crate, promise, calls, definitions):
+    assert len(promise.split()) <= 30
     for names, labels in guarantees.told_calls(calls):
         names = [name.split("::")[-1] for name in names]
         assert names and labels, "no call, or no clause"
         assert [name for name in names if name not in CALLS[crate]] == [], "no such call"
         for name in names:
-            assert set(labels) - CALLS[crate][name] == set(), f"no such clause of {name}"
+            assert set(labels) - CALLS[crate][name].keys() == set(), f"no such clause of {name}"
+    assert not [it for it in guarantees.clauses_behind(crate, calls) if it.endswith(": ")], "a clause without a text"
 
 
 @each_row
