@@ -10,7 +10,8 @@ from reports import jobs_of
 from support import TOP, run, run_tool
 from zsched_tools.words import duration
 
-PAGES = sorted([*TOP.glob("*.md"), *TOP.glob("docs/*.md"), *TOP.glob("benches/**/*.md"), *TOP.glob("crates/*/README.md")])
+PAGES = sorted({page for form in ["*.md", "*/README.md", "docs/*.md", "benches/**/*.md", "crates/*/README.md"]
+                for page in TOP.glob(form)})
 FOLDERS = ("benches/", "build/", "crates/", "docs/", "examples/", "tests/", "tools/", "zs_")
 README = (TOP / "README.md").read_text()
 FORMATS = (TOP / "docs" / "FORMATS.md").read_text()
