@@ -55,6 +55,15 @@ def test_the_readme_names_commands_that_exist():
     assert [name for name in sorted(named) if not (TOP / name).is_file()] == []
 
 
+def test_a_new_operator_has_the_files_of_a_leaf():
+    section = (TOP / "CONTRIBUTING.md").read_text().split("## A new operator")[1].split("\n## ")[0]
+    named = {folder + name for folder, rest in re.findall(r"^\d\. `(\w.*?/)`: ((?:.*\n)+?)(?=\d\. |\n)", section, re.M)
+             for name in re.findall(r"`(\w[\w/.]*\.\w+)`", rest.partition("; ")[0])}
+    forms = ["crates/zs_*/[sp]*/**/*.rt", "crates/zs_*/[sp]*/**/*.antt", "docs/*", "tests/[!t]*.py", "tools/*/*.py"]
+    assert named | {"docs/play.html"} == {str(path.relative_to(TOP)) for form in forms for path in TOP.glob(form) if all(
+        re.search(rf"(?i)\b{leaf}\b", path.read_text()) for leaf in ["linear", "windowed"])}
+
+
 def test_the_readme_shows_the_sample(zsched):
     plan, report = re.search(r"```json\n(.*?)```\n```\n(.*?)```", README, re.DOTALL).groups()
     sample = TOP / "examples" / "checkout.json"
