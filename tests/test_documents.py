@@ -49,6 +49,24 @@ def test_files_that_a_page_names_exist(page):
         TOP / name, page.parent / name, TOP / "crates" / name, TOP / "crates" / f"{name}.antt"])] == []
 
 
+def words_in(place):
+    paths = [place] if place.is_file() else place.rglob("*.*t")
+    return {word for path in paths for word in re.findall(r"\w+", f"{path} {path.read_text()}")}
+
+
+def test_each_name_of_architecture_is_in_a_file_that_its_section_links_to():
+    page = (TOP / "docs" / "ARCHITECTURE.md").read_text().split("\n## Where things are")[0]
+    drawn = set(re.findall(r"\w+_\w+", " ".join(re.findall(r"^```text\n(.*?)```", page, re.M | re.S))))
+    assert len(drawn) > 25 and drawn - words_in(TOP / "crates") == set()
+    for section in re.split(r"\n(?=##)", re.sub(r"^```.*?^```$", "", page, flags=re.M | re.S)):
+        known = {"zs_job_bounds"}
+        for name, link in re.findall(r"\[(.*?)\]\((\.\./crates/.*?)\)", section, re.S):
+            known |= (words := words_in(TOP / "docs" / link))
+            assert name[0] != "`" or {*re.findall(r"\w+", name)} & words, name
+        named = " ".join(re.findall(r"`([\w:]+(?:\{[\w, ]+\})?)`", section.partition("\n")[2]))
+        assert set(re.findall(r"\w+", named)) - known == set()
+
+
 def test_the_readme_names_commands_that_exist():
     named = set(re.findall(r"`\.?/?((?:tools/[a-z-]+)|run|check)\b", README))
     assert len(named) >= 7
