@@ -116,23 +116,15 @@ def test_each_changed_plan_that_is_rejected_gets_a_place(zsched, two_gigabytes):
     assert ends.count(2) + ends.count(0) > count - count // 50
 
 
-SMALL, LONGER = (f'"script":[{",".join([entry] * count)}]'
-                 for entry, count in [('{"ms":1,"ok":1}', 1000), ('{"ms":1000,"ok":1732050807}', 64)])
-Z = '{"name":"z","mode":"retry","schedule":"recurs(3)","script":[{"ms":1,"ok":1}'
+SCRIPTS = {name: f'"script":[{",".join([entry] * count)}]' for name, entry, count in [
+    ("short", '{"ms":1,"ok":1}', 1000), ("long", '{"ms":1000,"ok":1732050807}', 64)]}
 
 
 # Plans of nearly 16 MB of the parts that take longest: jobs with a script, or ticks, and then the text with a fault.
 @pytest.mark.full
-@pytest.mark.parametrize("script, last, fault", [
-    (SMALL, Z + "]}]}", None),
-    (SMALL, Z + "»,]}]}", "plan is not JSON"),
-    (SMALL, Z + ',{"ms":»0,"ok":1}]}]}', "job N: script: an entry takes 0 ms"),
-    (SMALL, Z + ']}],"grain":»0}', "plan: out of range"),
-    (LONGER, Z.replace("(3", "(3»s") + "]}]}", "job N: schedule: no term at byte 8"),
-    (LONGER, Z.replace('"recurs(3)"', "»5") + "]}]}", "job N: wrong shape"),
-    (LONGER, Z.replace('"z"', '»"j0"') + "]}]}", "job N: name used before"),
-    (None, "»7]}", "plan: out of range")], ids=range(8))
-def test_the_fault_at_the_end_of_a_long_plan_is_shown(script, last, fault, zsched):
+@pytest.mark.parametrize("kind, last, fault", rows("long_plans.jsonl"), ids=range(8))
+def test_the_fault_at_the_end_of_a_long_plan_is_shown(kind, last, fault, zsched):
+    script = SCRIPTS.get(kind)
     number = 16_000_000 // len(job(script=script)) + 1 if script else 0
     front = '{"horizon":1000,"jobs":[' + "".join(job(f"j{at}", script=script) + "," for at in range(number))
     if script is None:
@@ -162,11 +154,7 @@ def test_of_jobs_that_are_alike_the_first_one_remains():
 LIKE = alike_jobs(8)[7]
 
 
-@pytest.mark.parametrize("changed, are_first_ones", [
-    *[(LIKE.replace('"name":"j7"', f'"name":"{name}"'), False) for name in ["j 7", "j3", "\\u006a3", ""]],
-    *[(LIKE.replace('"start":8', f'"start":{it}'), False) for it in ["0", "-8", "1.5", "8e9", "18446744073709551616"]],
-    *[(text, True) for text in ["7", "[]", "{}", '{"name":7}', LIKE.replace("recurs(3)", "recurs(0)"),
-                                LIKE.replace("503", "0"), LIKE.replace('"err":503', '"ok":503')]]])
+@pytest.mark.parametrize("changed, are_first_ones", rows("other_jobs.jsonl"))
 def test_a_job_that_may_have_a_different_fault_remains(changed, are_first_ones):
     numbers = all_faults.fewer(plan([*alike_jobs(7), changed, *alike_jobs(20)[8:]])).numbers
     assert 7 in numbers and (numbers == [0, 7] or not are_first_ones)

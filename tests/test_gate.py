@@ -12,28 +12,10 @@ import proofs
 from support import TOP, executable, rows
 
 EDITS = {"zs_term/one.edit", "zs_pool/two.edit"}
-ONE, TWO = (f"rt: must-fail {name}: refused, as it must be" for name in ["zs_term/one.edit", "zs_pool/two.edit"])
-LABEL = "rt: must-fail zs_term/one.edit"
-GOOD = [ONE, f"{TWO}: src/lib.rt:1:1: error", "4 passed, 0 failed"]
 
 
-@pytest.mark.parametrize("lines, status, failed", [
-    (GOOD, 0, 0),
-    ([f"{LABEL}: BAD EDIT: an 'old:' text is in src/lib.rt 0 times, and not once", *GOOD[1:]], 0, 1),
-    ([f"{LABEL}: NOT TRIED: its check was killed", *GOOD[1:-1], "3 passed, 1 failed"], 1, 1),
-    ([f"{LABEL}: NOT REFUSED: the crate is still proved with this edit", *GOOD[1:-1], "3 passed, 1 failed"], 1, 1),
-    ([*GOOD[:-1], "rt: crates/zs_term/must-fail/more.txt: BAD EDIT: its name ends in .edit", GOOD[-1]], 0, 1),
-    ([TWO, "3 passed, 0 failed"], 0, 1),
-    (["2 passed, 0 failed"], 0, 2),
-    ([ONE, ONE, "4 passed, 0 failed"], 0, 1),
-    ([*GOOD[:-1], "2 passed, 2 failed"], 1, 2),
-    (GOOD, 1, 1),
-    (GOOD[:-1], 0, 1),
-    ([], -9, 1),
-], ids=["all are rejected", "one doesn't apply", "one isn't tried", "one is proved", "one has another name",
-        "one isn't reported", "none is reported", "one is reported twice", "two proofs failed", "another status",
-        "no last line", "killed"])
-def test_edits_that_rt_ci_does_not_reject_fail_the_proofs(lines, status, failed):
+@pytest.mark.parametrize("name, lines, status, failed", rows("edits.jsonl"))
+def test_edits_that_rt_ci_does_not_reject_fail_the_proofs(name, lines, status, failed):
     assert proofs.judged(lines, status, EDITS)[1] == failed
 
 

@@ -129,45 +129,8 @@ def parts_of(row, k):
     return {"s": s, "a": a, "b": part(zio.exponential(5), "exponential(5)")}
 
 
-def definitions(d, e, k, n, s, a, b):
-    """ZIO's schedule of each row of the tables that says 'same'."""
-    return {
-        "`Schedule.forever`, `Schedule.count`": zio.forever(), "`Schedule.recurs(k)`": zio.recurs(k),
-        "`Schedule.once`": zio.recurs(1).unit(), "`Schedule.stop`": zio.recurs(0).unit(),
-        "`Schedule.spaced(d)`": zio.spaced(d), "`Schedule.windowed(d)`": zio.windowed(d),
-        "`Schedule.exponential(d)`": zio.exponential(d), "`Schedule.exponential(d, k)`": zio.exponential(d, k),
-        "`Schedule.linear(d)`": zio.linear(d), "`Schedule.fibonacci(d)`": zio.fibonacci(d),
-        "`Schedule.identity`": zio.identity(), "`Schedule.elapsed`": zio.elapsed(),
-        "`Schedule.upTo(d)`": zio.up_to(d), "`Schedule.duration(d)`, `Schedule.fromDuration(d)`": zio.duration(d),
-        "`Schedule.fromDurations(d, e)`": zio.from_durations(d, e),
-        "`Schedule.recurWhile(_ < N)`": zio.identity().while_input(lambda x: x < n),
-        "`Schedule.recurUntil(_ < N)`": zio.identity().while_input(lambda x: x >= n),
-        "`Schedule.recurWhileEquals(N)`": zio.identity().while_input(lambda x: x == n),
-        "`Schedule.recurUntilEquals(N)`": zio.identity().while_input(lambda x: x != n),
-        "`Schedule.succeed(N)`": zio.forever().map(lambda out: n),
-        "`Schedule.fromFunction(_ * N)`": zio.identity().map(lambda x: x * n),
-        "`Schedule.unfold(N)(_ + 1)`": zio.unfold(n, lambda x: x + 1),
-        "`a && b`, `a zip b`, `a <*> b` (`both`)": zio.both(a, b),
-        "`a <* b`, `a zipLeft b`": zio.both(a, b).map(lambda out: out[0]),
-        "`a *> b`, `a zipRight b`": zio.both(a, b).map(lambda out: out[1]),
-        "`a || b`, `a either b`": zio.either(a, b),
-        "`a andThenEither b`, `a <||> b`": zio.and_then_either(a, b),
-        "`a andThen b`, `a ++ b`": zio.and_then(a, b),
-        "`a >>> b`, `b <<< a`, `b compose a`": zio.compose(a, b),
-        "`s.map(_ * N)`": s.map(lambda x: x * n), "`s.as(N)`": s.map(lambda x: n),
-        "`s.unit`": s.unit(),
-        "`s.whileInput(_ < N)`": s.while_input(lambda x: x < n), "`s.whileOutput(_ < N)`": s.while_output(lambda x: x < n),
-        "`s.untilInput(_ < N)`": s.while_input(lambda x: x >= n), "`s.untilOutput(_ < N)`": s.while_output(lambda x: x >= n),
-        "`s.whileInput(x => x == N || x == k)`": s.while_input(lambda x: x in (n, k)),
-        "`s.check((x, o) => x < N && o < k)`": s.check(lambda x, o: x < n and o < k),
-        "`s.upTo(d)`": s.up_to(d),
-        "`s.resetWhen(_ >= N)`": s.reset_when(lambda x: x >= n), "`s.resetAfter(d)`": s.reset_after(d),
-        "`s.forever`": s.forever(),
-        "`s.repetitions`": s.repetitions(), "`s.passthrough`": s.passthrough(),
-        "`s.delayed(_ min d)`": s.modify_delay(lambda out, delay: min(delay, d)),
-        "`s.delayed(_ max d)`": s.modify_delay(lambda out, delay: max(delay, d)),
-        "`s.addDelay(_ => d)`": s.add_delay(lambda out: d),
-    }
+# ZIO's schedule of each row of the tables that says 'same', as a term of the names of zio_model and of a row's letters.
+DEFINITIONS = dict(line.split("\t") for line in (TOP / "tests" / "zio.tsv").read_text().splitlines())
 
 
 def script_of(chance, key):
@@ -191,8 +154,7 @@ def test_a_row_for_zio_says_what_it_is(name, text, said):
 
 
 def test_each_row_that_says_the_same_has_a_definition():
-    nothing = zio.forever()
-    assert list(SAME) == list(definitions(1, 2, 3, 4, nothing, nothing, nothing))
+    assert list(SAME) == list(DEFINITIONS)
 
 
 @pytest.mark.parametrize("name", SAME)
@@ -203,7 +165,8 @@ def test_the_same_has_the_outputs_and_decisions_of_zio(name, zsched):
         texts = dict(zip("dekN", map(str, numbers))) | {letter: it.text for letter, it in parts.items()}
         text = re.sub(r"\b[sabdekN]\b", lambda found: texts[found[0]], SAME[name].strip("`"))
         for mode, key in [("retry", "err"), ("repeat", "ok")] * (JOBS // 2):
-            models.append(definitions(*numbers, *(it.model for it in parts.values()))[name])
+            letters = dict(zip("dekn", numbers)) | {letter: it.model for letter, it in parts.items()}
+            models.append(eval(DEFINITIONS[name], {**vars(zio), **letters}))
             jobs.append({"name": f"j{len(jobs)}", "mode": mode, "schedule": text, "script": script_of(chance, key)})
     status, report, errors = run(zsched, json.dumps({"horizon": HORIZON, "jobs": jobs}).encode())
     assert (status, errors) == (0, b"")

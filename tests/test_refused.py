@@ -49,36 +49,13 @@ def plan_of(jobs, workers, grain):
     return support.equal_jobs([f"j{number}" for number in range(jobs)], workers, grain)
 
 
-TEXT = "( exponential(10).collectAll && (recurs(3) andThenEither spaced(5)).map(merge) ).whileOutput(_2 < 9)"
-SPELLED = "(exponential(10, 2).collectAll && (recurs(3) andThenEither spaced(5)).map(merge)).whileOutput(_2 < 9)"
-# A schedule whose state and outputs both grow, and its output at the last of (1, 7), (3, 8), (9, 9).
-GROWING = "(identity.collectAll && (recurs(1) andThenEither spaced(5)))"
-THIRD = "([7,8],Right(1))"
-REPEATED = support.plan([support.job(schedule=GROWING, mode="repeat", script='"script":[' + ",".join(
-    f'{{"ms":5,"ok":{value}}}' for value in [7, 8, 9]) + "]")]).decode()
-ONE = ONE_JOB.decode()
-RUN = ["run: Plan(Memory)", "run: Engine(Memory)"]
-JOBS = ["read_plan: Memory", "run_jobs: Memory", "report: AllocError"]
-CALLS = {
-    "text": Call("text", TEXT, SPELLED, ["read: Memory", "write: AllocError"]),
-    "tree": Call("tree", "", SPELLED, ["check: Memory"]),
-    "plain": Call("plain", GROWING, THIRD, ["plain: Memory", "write_out: AllocError"]),
-    "follow": Call("follow", GROWING, THIRD, ["follow: Memory"]),
-    "steps": Call("steps", GROWING, THIRD, ["Compiled::new: Memory", "step: Memory"]),
-    "task": Call("task", REPEATED, "", ["Task::new: Memory", "poll: Memory"]),
-    "lines": Call("lines", REPEATED, "", ["Task::keeping: Memory", "poll: Memory"]),
-    # `Agenda::new`, `take` and `split` allocate nothing.
-    "agenda": Call("agenda", "", "", ["set: Memory"]),
-    "board": Call("board", "", "", ["Board::new: Memory", "close of a board: Memory"]),
-    "shelf": Call("shelf", "", "", ["Shelf::new: Memory", "close of a shelf: Memory"]),
-    "batch": Call("batch", ONE, "", ["Tally::new: Memory", "poll_batch: Memory", "poll_batch: broken"]),
-    "round": Call("round", ONE, "", ["round: Memory"], "round: NoThread"),
-    "run": Call("run", ONE, ONE_REPORT.decode(), RUN),
-}
+# Single calls. `Agenda::new`, `take` and `split` allocate nothing.
+CALLS = {name: Call(name, *more) for name, *more in support.rows("calls.jsonl")}
 # Whole plans, each once on one worker and then shared between two.
-for call, lines, number, grain in [("jobs", JOBS, 7, 1), ("run", RUN, 7, 3), ("run", RUN, 52, 3)]:
+for call, number, grain in [("jobs", 7, 1), ("run", 7, 3), ("run", 52, 3)]:
     for workers in [1, 2]:
         plan, report = plan_of(number, workers, grain if workers > 1 else 1)
+        lines = {"jobs": ["read_plan: Memory", "run_jobs: Memory", "report: AllocError"], "run": CALLS["run"].lines}[call]
         CALLS[f"{call} of {number}, {workers} workers"] = Call(
             call, plan.decode(), report.decode(), lines, lines[1].replace("Memory", "NoThread") if workers > 1 else "")
 
