@@ -20,16 +20,11 @@ BYTES = ["C", "C watched", "C++", "Go", "Node"]
 BOUND = ["Python", "Go", "Node", "Java", "Rust"]
 # Debian's packages put the sources of crates here.
 CRATES = pathlib.Path("/usr/share/cargo/registry")
-FAULTS = {b"recurs(1) && recurs(2)": "11,10,no term at byte 10", b"exponential(1, 0)": "14,0,factor is 0",
-          b"recurs(18446744073709551616)": "13,7,number too large at byte 7", b"windowed(0)": "16,0,window is 0",
-          b"recurs(1).map(_1)": "15,0,no kind", b"forever" + b".map(+ 1)" * 64: "12,0,too big",
-          b"?": "11,0,no term at byte 0", b"forever.": "11,8,no term at byte 8", b"": "11,0,no term at byte 0"}
+FAULTS = {text.encode(): fault for text, fault in rows("faulty_texts.jsonl")}
 # A policy, the code of the failures and how many there are; how it ends, and the milliseconds between attempts.
 RETRIES = rows("retries.jsonl")
 # Policies of which each attempt fails at once.
-PROMISED = ["elapsed.whileOutput(< 200)", "(spaced(1) && elapsed).whileOutput(_2 < 200)", "recurs(100)",
-            "((exponential(1) || spaced(4)) && elapsed).whileOutput(_2 < 200)", "(exponential(2) && recurs(6))",
-            "(spaced(10) && elapsed).whileOutput(_2 < 200)", "(fixed(7) && recurs(20))", "(windowed(10) && recurs(9))"]
+PROMISED = rows("promised.jsonl")
 # A policy, the code of all failures; a jitter in percent, a least wait in milliseconds, the code that isn't retried, and 1
 # for a shared budget; how many attempts there are at least and most, and the least and most milliseconds of each wait.
 # Steps are made at the moments that are planned without jitter, so it makes no more attempts.

@@ -201,9 +201,7 @@ def test_a_plan_with_one_tick_has_the_faults_of_the_plan(zsched):
     assert program.run(zsched, plan_size.with_one_tick(endless))[0] == 0
 
 
-@pytest.mark.parametrize("clock", [
-    '"horizon":-0', '"horizon":1000000000000000', '"horizon":true', '"ticks":[2,2]', '"ticks":[]', '"ticks":5',
-    '"ticks":[1],"horizon":2', '"x":-0,"horizon":1', '"horizon":1e400'])
+@pytest.mark.parametrize("clock", rows("wrong_clocks.jsonl"))
 def test_a_plan_with_a_wrong_clock_is_run_as_it_is(clock):
     data = plan([job("a", "forever")], clock)
     assert plan_size.with_one_tick(data) == data

@@ -11,12 +11,9 @@ import gate
 import proofs
 from support import TOP, executable, rows
 
-EDITS = {"zs_term/one.edit", "zs_pool/two.edit"}
-
-
 @pytest.mark.parametrize("name, lines, status, failed", rows("edits.jsonl"))
 def test_edits_that_rt_ci_does_not_reject_fail_the_proofs(name, lines, status, failed):
-    assert proofs.judged(lines, status, EDITS)[1] == failed
+    assert proofs.judged(lines, status, {"zs_term/one.edit", "zs_pool/two.edit"})[1] == failed
 
 
 @pytest.mark.parametrize("lines, status, is_late, failed", rows("ends_of_parts.jsonl"))

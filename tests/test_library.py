@@ -8,16 +8,13 @@ import pytest
 
 from histories import FALLS, History, histories, judge
 from languages import STRICT, client, need, request
-from support import TOP, tree
+from support import TOP, rows, tree
 
 REFUSED = 250
 UNDER_VALGRIND = 40
 VALGRIND = ["valgrind", "--quiet", "--error-exitcode=9", "--leak-check=full", "--show-leak-kinds=all"]
 # Schedules of the greatest depth.
-DEEPEST = ["(forever && " * 63 + "forever" + ")" * 63, "(" * 63 + "forever" + " || elapsed)" * 63,
-           "(recurs(0) andThenEither " * 63 + "forever" + ")" * 63, "forever" + ".map(+ 1)" * 63,
-           "forever" + ".collectAll" * 63, "identity" + ".whileOutput(>= 0)" * 63,
-           "forever" + ".map(+ 1)" * 55 + ".resetWhen(> 1)" * 3]
+DEEPEST = rows("deepest.jsonl")
 # A schedule, the numbers of struct zs_bounds in turn for at most 1000 steps, and how they were worked out by hand.
 BOUNDS = dict(line.split("\t")[:2] for line in (TOP / "tests" / "bounds.tsv").read_text().splitlines())
 # A policy's program, by crates/zs_c/specs/Program.antt and Code.antt.

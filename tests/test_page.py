@@ -19,7 +19,7 @@ import reference
 from browser import framed, inside, opened
 from mistakes import MISTAKES, split
 from reports import jobs_of
-from support import TOP, examples, plan, plans_with_reports, report_beside
+from support import TOP, examples, plan, plans_with_reports, report_beside, rows
 from zsched_tools import drawn, hints, schedule_rules
 from zsched_tools.place import FaultAt
 from zsched_tools.policy import command
@@ -302,9 +302,7 @@ def test_nothing_is_out_of_sight_from_360_to_1600_pixels(tmp_path):
 
 
 @pytest.mark.full
-@pytest.mark.parametrize("schedule, until, labels", [
-    ("(exponential(100) && recurs(12))", "20min", ["0 ms", "1 min", "2 min", "3 min"]),
-    ("(exponential(1000, 10) && recurs(7))", "300d", ["0 ms", "5 d", "10 d"]), ("recurs(3)", "1s", ["0 ms", "1 ms"])])
+@pytest.mark.parametrize("schedule, until, labels", rows("axes.jsonl"))
 def test_the_axis_of_waits_has_round_labels(schedule, until, labels):
     curves = inside(shown(a=schedule, until=until, script="5 err 7"), "curves")
     assert re.findall(r'text-anchor="end"[^>]*>([^<]*)</text>', curves) == labels

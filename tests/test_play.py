@@ -120,31 +120,10 @@ def test_a_long_report_is_cut(zsched):
     assert len(found["report"]) <= 500 and report.startswith(found["report"]) and found["report"].endswith("\n")
 
 
-# Requests: their method, path, body and headers, and the status of the response. PORT is the server's.
-GET, REPORT = ("GET", "/", None), ("POST", "/report", ONE_JOB)
-METHODS = ["PUT", "DELETE", "PATCH", "OPTIONS", "TRACE"]
-REQUESTS = {
-    "localhost is its name too": [(*GET, {"Host": "localhost:PORT"}, 200)],
-    "another host": [(*words, {"Host": host}, 421) for words in [GET, REPORT] for host in [
-        "zsched.example", "zsched.example:PORT", "127.0.0.1", "127.0.0.1:1", "127.0.0.1:PORT.example", "", None]],
-    "another origin": [(*REPORT, {"Origin": it}, 403) for it in [
-        "http://zsched.example", "null", "https://127.0.0.1:PORT"]],
-    "the same origin": [(*REPORT, {"Origin": "http://127.0.0.1:PORT"}, 200)],
-    "another method": [("GET", "/report", None, {}, 405), ("BREW", "/", None, {}, 501), ("POST", "/", b"{}", {}, 405),
-                       *((it, path, b"{}", {}, 405) for it in METHODS for path in ["/", "/report"])],
-    "another path": [(method, path, body, {}, 404) for method, body in [("GET", None), ("POST", b"{}")] for path in [
-        "/play.html", "/../play.py", "/report/", "/report.json", "/index.html", "/%2e%2e/"]],
-    "a long plan": [("POST", "/report", b" " * 16777217, {}, 413), ("POST", "/report", b" " * 16777216, {}, 200)],
-    "a length": [("POST", "/report", None, {"Content_Length": it}, status) for it, status in [
-        (None, 411), ("ten", 400), ("-1", 400), ("1_0", 400), ("1" * 19, 400), ("1" * 18, 413)]],
-    "a body in chunks": [("POST", "/report", None, {"Transfer_Encoding": "chunked"}, 411)],
-}
-
-
-@pytest.mark.parametrize("row", [
-    pytest.param(row, id=f"{name} {number}") for name, rows in REQUESTS.items() for number, row in enumerate(rows)])
-def test_requests_that_are_taken_and_rejected(url, row):
-    method, path, body, headers, status = row
+# Requests: method, path, body (or how many spaces it has), headers, in which PORT is the server's, and the response's status.
+@pytest.mark.parametrize("name, method, path, body, headers, status", rows("requests.jsonl"), ids=lambda it: str(it)[:30])
+def test_requests_that_are_taken_and_rejected(url, name, method, path, body, headers, status):
+    body = b" " * body if isinstance(body, int) else body and body.encode()
     port = str(urllib.parse.urlsplit(url).port)
     headers = {name: it and it.replace("PORT", port) for name, it in headers.items()}
     found, said, _ = request(url, method, path, body, **headers)

@@ -15,7 +15,7 @@ import timeit
 import pytest
 
 from languages import BINDINGS, ran
-from support import TOP
+from support import TOP, rows
 
 LARGEST = 2 ** 64 - 1
 POLICY = "(exponential(10) && recurs(3))"
@@ -134,21 +134,15 @@ def test_a_step_that_is_refused_leaves_the_schedule(zsched, kind, first, second)
     assert made.after(5, LARGEST) == (None, "1", 1)
 
 
-WRONG = ["", "{}", "[]", '{"schedule":"recurs(","seen":[],"state":[]}', '{"schedule":1,"seen":[],"state":[]}']
-WRONG_SEEN = ['{"schedule":"recurs(1)","seen":[[2,1],[1,1]]}', '{"schedule":"recurs(1)","seen":[[1]]}',
-              '{"schedule":"recurs(1)","seen":[[-1,0]]}']
-WRONG_STATE = ['{"schedule":"recurs(1)","state":[1]}', '{"schedule":"recurs(1)","state":[1,-1]}',
-               '{"schedule":"forever.collectAll","state":[1,1]}']
-
-
-@pytest.mark.parametrize("kind, wanted, wrong", [("Schedule", [(1, 2)], WRONG_SEEN), ("Stepper", [1, 10, 20, 0, 1], WRONG_STATE)])
+@pytest.mark.parametrize("kind, wanted, wrong", zip(
+    ["Schedule", "Stepper"], [[(1, 2)], [1, 10, 20, 0, 1]], rows("not_saved.jsonl")))
 def test_what_is_saved_goes_on(zsched, kind, wanted, wrong):
     made = getattr(zsched, kind)(POLICY)
     made.after(1, 2)
     again, saved = made.load(made.save()), made.save()
     assert (again.text, seen_of(again)) == (made.text, wanted)
     assert again.after(12, 2) == made.after(12, 2)
-    for text in [*WRONG, *wrong, *[saved.replace("recurs(3)", "recurs(4)")] * (kind == "Stepper")]:
+    for text in [*wrong, *[saved.replace("recurs(3)", "recurs(4)")] * (kind == "Stepper")]:
         with pytest.raises(ValueError):
             made.load(text)
 

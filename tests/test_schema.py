@@ -20,9 +20,7 @@ LONGEST = 20000
 CHANGES = 2000
 # What the schema can't express, as docs/FORMATS.md says: faults, and plans, some of them by their names.
 UNTOLD = re.compile(r"name used before|too big|number too large|no kind")
-MISSED = ["a byte order mark", "horizon 1e3", "a horizon with an exponent", "schedule (recurs(1) && recurs(2)",
-    "parentheses behind forever", "parentheses behind collectAll", "a parenthesis too few", "a parenthesis too many",
-    "parentheses for nothing", "an operator too few", "half an operator's schedules"]
+MISSED = rows("missed.jsonl")
 
 
 def described(part, place):
