@@ -11,6 +11,7 @@ import gate
 import proofs
 from support import TOP, executable, rows
 
+
 @pytest.mark.parametrize("name, lines, status, failed", rows("edits.jsonl"))
 def test_edits_that_rt_ci_does_not_reject_fail_the_proofs(name, lines, status, failed):
     assert proofs.judged(lines, status, {"zs_term/one.edit", "zs_pool/two.edit"})[1] == failed
