@@ -143,13 +143,14 @@ class Reader:
     def _column(self, chosen, known, option=None, but=()):
         """The column that was chosen, else the first that is known. With an option there has to be one."""
         names = [name.strip() for name in self.head]
-        if chosen is not None and chosen in names:
-            return Column(names.index(chosen), chosen, _plain(chosen)[1])
-        plain = [_plain(name)[0] for name in names]
-        for name in known if chosen is None else ():
-            if name in plain and plain.index(name) not in but:
-                number = plain.index(name)
-                return Column(number, names[number], _plain(names[number])[1])
+        pairs = [_plain(name) for name in names]
+        words, but, same = (names, (), names) if chosen is not None else ([plain for plain, _ in pairs], but, pairs)
+        for name in known if chosen is None else [chosen]:
+            if name in words and words.index(name) not in but:
+                number = words.index(name)
+                if same.count(same[number]) > 1:
+                    raise Refused(f"{self.path}:1: two columns are named {shown(names[number])}")
+                return Column(number, names[number], pairs[number][1])
         if option is None and chosen is None:
             return None
         what = "no known column" if chosen is None else f"no column {shown(chosen)}"
