@@ -9,9 +9,9 @@ import sys
 from fractions import Fraction
 from typing import NamedTuple
 
-from zsched_tools import call_log, faults, program
+from zsched_tools import call_log, command, faults, program
 from zsched_tools.call_log import Notes
-from zsched_tools.command import Refused, write
+from zsched_tools.command import Refused
 from zsched_tools.drawn import check_schedule
 from zsched_tools.durations import exact_milliseconds
 from zsched_tools.outage.scenario import Outcome
@@ -68,14 +68,13 @@ class Source(NamedTuple):
         return line_of(self.text, at)
 
 
-def _source(path):
-    """The text of a file."""
-    data = pathlib.Path(path).read_bytes()
+def _source(given):
+    """The text of the file."""
     try:
-        return Source(path, data.decode("utf-8-sig"))
+        return Source(given.file, given.data.decode("utf-8-sig"))
     except UnicodeDecodeError as fault:
-        line = data.count(b"\n", 0, fault.start) + 1
-        raise Refused(f"{path}:{line}: the text is not UTF-8") from None
+        line = given.data.count(b"\n", 0, fault.start) + 1
+        raise Refused(f"{given.file}:{line}: the text is not UTF-8") from None
 
 
 def _until(word):
@@ -90,7 +89,8 @@ def add_command(forms):
     """Adds the command to those of zsched-plan."""
     given = forms.add_parser("from", description=ABOUT, epilog=EPILOG,
                              help="a log (CSV) or a policy file (YAML, TOML) as a plan")
-    given.add_argument("file", metavar="FILE", help="the file; the end of its name says what it is")
+    given.add_argument("file", metavar="FILE", help="the file; the end of its name says what it is. - is standard "
+                       "input: a log with --schedule, else a policy file")
     given.add_argument("-o", dest="out", metavar="PLAN", help="the plan's file (standard output)")
     given.add_argument("--until", type=_until, metavar="TIME",
                        help="the horizon, if the file has no horizon (1h; 1h after the end of a log)")
@@ -110,13 +110,19 @@ def add_command(forms):
 def _from(given):
     """The command."""
     suffix = pathlib.Path(given.file).suffix.lower()
-    if suffix not in [*READERS, *LOGS]:
+    given.data = command.read("-") if given.file == "-" else None
+    if given.data is None and suffix not in [*READERS, *LOGS]:
         raise Refused(f"{given.file}: the name must end with one of {', '.join([*LOGS, *READERS])}")
+    if given.data is not None:
+        is_toml = re.search(rb"\A(?:\s|#.*\n)*(?:\[|[\w\"'-]+\s*=)", given.data)
+        suffix = LOGS[0] if given.schedule is not None else ".toml" if is_toml else ".yaml"
+        given.file = "standard input"
     is_log = suffix in LOGS
     if is_log and given.schedule is None:
         raise Refused(f"{given.file}: a log needs --schedule, as --schedule 'recurs(3)'")
     if not is_log and given.schedule is not None:
         raise Refused(f"{given.file}: --schedule is for a log; write the schedule into the file")
+    given.data = command.read(given.file) if given.data is None else given.data
     text, jobs = _of_log(given) if is_log else _of_policies(given, READERS[suffix])
     data = text.encode()
     if jobs > MOST_JOBS or len(data) > program.MAX_BYTES:
@@ -125,7 +131,7 @@ def _from(given):
     if given.out is None:
         sys.stdout.buffer.write(data)
     else:
-        write(given.out, data)
+        command.write(given.out, data)
 
 
 def _say(text):
@@ -142,8 +148,8 @@ def _report(notes, path, line):
 def _of_log(given):
     """The plan or the scenario of a log, and how many jobs it has."""
     check_schedule("zsched-plan", given)
-    notes, data = Notes(), pathlib.Path(given.file).read_bytes()
-    log = call_log.Reader(shown(given.file, WIDTH), data, given, notes)
+    notes = Notes()
+    log = call_log.Reader(shown(given.file, WIDTH), given.data, given, notes)
     if given.windows and not log.has_moments:
         raise Refused(f"{log.path}:1: --begin: no column has the moments of attempts")
     if not (log.has_moments or log.has_lengths):
@@ -208,7 +214,7 @@ def _scripts(given, log, service, requests, horizon):
 
 def _of_policies(given, read):
     """The plan of a policy file, and how many jobs it has."""
-    source, notes = _source(given.file), Notes()
+    source, notes = _source(given), Notes()
     try:
         root = plan_of(read(source.text), HOUR if given.until is None else given.until, notes)
         plan = Written(root)
