@@ -64,15 +64,18 @@ def _first(blocks):
             name, begin = ("A", one) if other is None else ("B", other)
             yield f"the first difference: only {name} makes attempt {number}, at {duration(int(begin[0]))}"
         elif one != other:
-            yield (f"the first difference: attempt {number} begins at {duration(int(one[0]))}, and in B at "
-                   f"{duration(int(other[0]))}")
+            place, verb = (0, "begins") if one[0] != other[0] or not one[1] or not other[1] else (1, "ends")
+            yield (f"the first difference: attempt {number} {verb} at {duration(int(one[place]))}, and in B at "
+                   f"{duration(int(other[place]))}")
 
 
-def _limit(one, other, what, *forms):
+def _limit(one, other, what, more, less, name=""):
     """How two limits differ, None for no limit."""
-    if one is None or other is None:
-        return "" if one == other else f"{'no' if other is None else 'a'} limit of {what}"
-    return _by(one, other, *forms)
+    if None not in (one, other) or one == other:
+        return _by(one or 0, other or 0, more, less, name)
+    known = one if other is None else other
+    words = plural(known, name) if name else bounding.rounded(known)
+    return f"no limit of {what} (A: {words})" if other is None else f"a limit of {what} ({words})"
 
 
 def _always(scope, one, other):
@@ -96,9 +99,9 @@ def _diff(given):
         return REFUSED
     found, bounds = list(tried_in(report)), bounds_of_all(given)
     for name, policy, result, bound in zip("AB", given.read, found, bounds):
-        every = f"\n   {of_all(policy, given.attempt)}: {bound.line()}" if bound else ""
+        every = f"\n   {of_all(given, policy)}: {bound.line()}" if bound else ""
         print(f"{name}  {policy.text}\n   {result.line()}{every}")
-    scope = of_all(max(given.read, key=lambda policy: policy.is_drawn), given.attempt)
+    scope = of_all(given, *given.read)
     lines = [*filter(None, [_here(*found)]), *itertools.islice(_first(blocks_of(report)), 1),
              *([] if None in bounds else _always(scope, *bounds))]
     print("\n".join(lines) or "no difference")
