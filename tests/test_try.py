@@ -32,8 +32,8 @@ def test_a_line_has_the_figures_of_the_report(seed, zsched):
     policies = ["spaced(30)", "exponential(20)", "(fixed(50) && recurs(7))", "fibonacci(10).whileOutput(< 90)",
                 "(recurs(3) || spaced(40))", "identity.collectAll.whileOutput(size < 30)"]
     entries = [(chance.randint(1, 60), chance.choice(["ok", "err"]), chance.randint(0, 9)) for _ in range(4)]
-    mode = chance.choice(["retry", "repeat"])
-    report = run(zsched, trials.plan_of(policies, mode, chance.randint(0, 900), entries).encode())[1]
+    mode, jobs = chance.choice(["retry", "repeat"]), [(f"job{at}", it, entries) for at, it in enumerate(policies)]
+    report = run(zsched, trials.plan_of(chance.randint(0, 900), mode, jobs).encode())[1]
     for found, job in zip(trials.tried_in(report), jobs_of(report), strict=True):
         waits, last = list(job.waits), job.attempts[-1]
         waits += [job.at - last.end] if job.how == "unfinished" and last.end is not None else []

@@ -6,6 +6,7 @@
     rand(LO, HI)                                a number that is drawn once
     jitter(BASE, CAP, N)                        ((exponential(BASE) || spaced(CAP)) && recurs(N)) jitter full
     @FILE#NAME                                  the policy NAME that `zsched-policy import FILE` finds
+    NAME: S                                     S with a name
 
 `jitter equal` draws from half of the wait to the wait, `jitter 20%` from 80 % to 120 % of it, and `jitter 2/3..1` from two
 thirds of it to the wait. A schedule has no random numbers, so each draw is a schedule in which its numbers are written.
@@ -28,12 +29,14 @@ from zsched_tools.policy import spelling
 from zsched_tools.positions import MAX_WHOLE
 from zsched_tools.program import LAST_MOMENT
 from zsched_tools.schedule_rules import any_cause
-from zsched_tools.trials import plan_of, waits_in
+from zsched_tools.trials import plain_name, plan_of, waits_in
 from zsched_tools.words import duration
 
 MOST_DELAYS = 240
 MOST_WAITS = 999
 LOW, HIGH = "low", "high"
+GREATEST_WAITS = "each wait has its greatest value"
+_NAME = re.compile(r" *([A-Za-z0-9._-]{1,64}) *: *")
 _CALL = re.compile(r"(?<![A-Za-z])(rand|jitter|delays|exponential)(?![A-Za-z]) *(?:\(([^()]*)\))?")
 _PART = r"[0-9]{1,9}(?:/[1-9][0-9]{0,8})?"
 _AFTER = re.compile(rf" *(?<![A-Za-z])jitter +(full|equal|([0-9]{{1,3}}(?:\.[0-9]{{1,9}})?) *%|({_PART})\.\.({_PART}))"
@@ -69,13 +72,22 @@ def drawn(random, least, most):
 
 class Policy:
     """A policy's text, read once and drawn any number of times. FaultAt has a fault with its place in the text. `zsched`
-    is the program's path (None: the one that is found)."""
+    is the program's path (None: the one that is found). `timeout` is the limit of an attempt that its config has."""
 
     def __init__(self, text, zsched=None):
-        self.text, self.zsched, self.left_out = text, zsched, []
-        self.source = text
-        if text.startswith("@"):
-            self.source, self.left_out = _of_file(text)
+        self.text, self.zsched, self.left_out, self.timeout = text, zsched, [], None
+        found = _NAME.match(text)
+        self.name, self.begin = (found[1], found.end()) if found else ("", 0)
+        self.source = text[self.begin:]
+        try:
+            if self.source.startswith("@"):
+                self.name, self.source, self.timeout, self.left_out = _of_file(self.source, self.name)
+            self._read()
+        except FaultAt as fault:
+            raise FaultAt(fault.cause._replace(at=self.begin + fault.cause.at)) from None
+
+    def _read(self):
+        """Reads the source as pieces."""
         edits = [edit for found in _AFTER.finditer(self.source) for edit in self._jitter(found)]
         for found in _CALL.finditer(self.source):
             is_inside = any(edit.at <= found.start() < edit.at + edit.size for edit in edits)
@@ -94,6 +106,10 @@ class Policy:
         """Whether draws differ."""
         return any(piece.draw for piece in self.pieces)
 
+    def ends(self):
+        """The schedules of the least and the greatest waits, and whether waits may be shorter than the least."""
+        return self.schedule(LOW), self.schedule(HIGH), any(GREATEST_WAITS in what for what in self.left_out)
+
     @property
     def is_cut(self):
         """Whether the schedule has only the first waits of its config."""
@@ -107,22 +123,26 @@ class Policy:
         """The schedule of the next draw; for LOW and HIGH that of the least and the greatest waits."""
         return "".join(self.texts(random))
 
-    def show(self, tool):
-        """Writes the schedule that the text becomes, and what that leaves out, to standard error."""
-        if self.spelled != self.text:
-            print(f"{tool}: {self.text} is {self.spelled}", file=sys.stderr)
-        for what in self.left_out:
-            print(f"{tool}: {self.text} leaves out {what}", file=sys.stderr)
+    def show(self, tool, is_limited=False):
+        """Writes the schedule that the text becomes, and what that leaves out, to standard error. `is_limited` says that
+        the config's limit of an attempt counts."""
+        lines = [f"is {self.spelled}"] if self.spelled != self.text[self.begin:] else []
+        if self.timeout:
+            limit = f"the limit of an attempt, {duration(self.timeout)}"
+            lines.append(f"has {limit}" if is_limited else f"leaves out {limit}")
+        for line in [*lines, *(f"leaves out {what}" for what in self.left_out)]:
+            print(f"{tool}: {self.text} {line}", file=sys.stderr)
 
     def cause_at(self, random, cause):
         """A cause in the schedule of the next draw as one in the policy: a piece with sugar is one place."""
-        if self.source != self.text:
+        if self.source != self.text[self.begin:]:
             return cause._replace(at=0, size=len(self.text))
         at = cause.at
         for piece, text in zip(self.pieces, self.texts(random)):
             if at < len(text) or piece is self.pieces[-1]:
                 is_whole = text != self.source[piece.at:piece.at + piece.size]
-                return cause._replace(at=piece.at, size=piece.size) if is_whole else cause._replace(at=piece.at + at)
+                begin = self.begin + piece.at
+                return cause._replace(at=begin, size=piece.size) if is_whole else cause._replace(at=begin + at)
             at -= len(text)
         return cause
 
@@ -256,26 +276,27 @@ def _spelled(at, size, make, retries, help=""):
     return text
 
 
-def _of_file(text):
-    """The policy that a text names, as @FILE#NAME: its schedule with its jitter, and what it leaves out."""
+def _of_file(text, called):
+    """The policy that a text names, as @FILE#NAME: its name, its schedule with its jitter, the limit of an attempt, and
+    what it leaves out."""
     from zsched_tools.policy import command
     path, _, name = text[1:].partition("#")
     if not path:
         refuse(0, len(text), "the name of a file is missing", "write @FILE#NAME")
     line = command.line_of_file(path, name or None)
-    jitter, left_out, timeout = line["jitter"] or {}, line["left_out"], line["attempt_timeout_ms"]
-    left_out += [f"the limit of an attempt, {duration(timeout)}"] if timeout else []
+    jitter, left_out, schedule = line["jitter"] or {}, line["left_out"], line["schedule"]
     left_out += [f"that only these are retried: {', '.join(line['retries_on'])}"] if line["retries_on"] else []
     least, percent = None, Fraction(str(jitter.get("percent", 0))) / 100
     if jitter == {"kind": "full"}:
-        return f"{line['schedule']} jitter full", left_out
-    if jitter.get("kind") == "proportional":
+        schedule += " jitter full"
+    elif jitter.get("kind") == "proportional":
         least = (1 - percent) / (1 + percent)
     elif jitter.get("kind") == "added" and percent:
         least = 1 / (1 + percent)
     elif jitter:
-        left_out = [*left_out, f"{jitter['kind']} jitter: each wait has its greatest value"]
-    return line["schedule"] + ("" if least is None else f" jitter {least}..1"), left_out
+        left_out = [*left_out, f"{jitter['kind']} jitter: {GREATEST_WAITS}"]
+    schedule += "" if least is None else f" jitter {least}..1"
+    return called or plain_name(line["name"]), schedule, line["attempt_timeout_ms"], left_out
 
 
 @functools.cache
@@ -283,7 +304,7 @@ def waits_of(zsched, schedule):
     """The first waits of a schedule by the program, at most MOST_WAITS, and whether it ends after them. FaultAt has a
     fault of the schedule."""
     script = [(1, "err", 0)] * MOST_WAITS + [(1, "ok", 0)]
-    status, report, errors = program.report_of(zsched, plan_of([schedule], "retry", LAST_MOMENT, script).encode(), 1)
+    status, report, errors = program.report_of(zsched, plan_of(LAST_MOMENT, "retry", [("job", schedule, script)]).encode(), 1)
     line = program.failure(status, errors)
     if status == REFUSED:
         raise FaultAt(any_cause(schedule, line.partition("schedule: ")[2]))
@@ -329,17 +350,17 @@ def _one_after_another(terms):
 
 
 def check_schedule(tool, given):
-    """Reads the schedule of a log's jobs, which may have sugar, and runs the program to check it."""
+    """Reads the schedule of a log's jobs, which may have sugar, and runs the program to check it. Returns the Policy."""
     found = program.find(given.zsched)
     try:
         policy = Policy(given.schedule, found)
         schedule = policy.schedule(HIGH)
     except FaultAt as fault:
         raise Refused(told("--schedule", given.schedule, fault.cause)) from None
-    if policy.is_drawn and tool != "zsched-plan":
-        raise Refused("--schedule: random waits can't be compared with those of a log")
-    if policy.is_drawn and not given.windows:
+    if policy.is_drawn and not getattr(given, "windows", tool == "zsched-follows"):
         raise Refused("--schedule: a plan has no random waits; --windows makes a scenario, which has them")
+    if policy.is_drawn and tool == "zsched-follows" and policy.limits() is None:
+        raise Refused("--schedule: the waits of this schedule aren't between those of its least and its greatest draw")
     policy.show(tool)
     given.schedule = policy.source if policy.is_drawn else policy.spelled
     status, _, errors = program.report_of(found, program.one_job(0, schedule, '{"ms":1,"ok":0}'), 1)
@@ -349,3 +370,4 @@ def check_schedule(tool, given):
         raise Refused(told("--schedule", policy.text, cause))
     if status:
         raise OSError(f"{found}: {line}")
+    return policy

@@ -60,7 +60,7 @@ class Row:
 class Layout:
     """The places of everything: rows by their number, the plot from left to right, and the texts next to it."""
 
-    def __init__(self, rows, title, view=View()):
+    def __init__(self, rows, head, view=View()):
         count = max(1, len(rows))
         self.row = 40 if count <= 6 else 30 if count <= 16 else 20
         self.size = 13 if self.row >= 30 else SMALL_SIZE
@@ -78,7 +78,7 @@ class Layout:
         self.labels, self.base = labels(self.scale)
         self.shapes = [Shapes(row.attempts, self.scale).found for row in rows]
         self.waits = [list(waits_of(row, shapes, self.scale)) for row, shapes in zip(rows, self.shapes)]
-        self.top = 34 + (30 if title else 0) + (18 if self.base else 0)
+        self.top = 34 + head + (18 if self.base else 0)
         self.bottom = self.top + count * self.row
         self.foot = self.bottom + (24 + strip.HEIGHT if count >= strip.FEWEST_ROWS else 6)
 
@@ -242,14 +242,17 @@ def legend_entries(layout, rows):
         yield lambda x, y: [path(f"M{place(x + 8)} {place(y - 8)}v16", "horizon")], words
 
 
-def draw(rows, title, view=View(), is_file=True):
-    """The picture of some jobs as SVG, in lines: for a file, or inside of a page."""
-    layout = Layout(rows, title, view)
+def draw(rows, title, view=View(), is_file=True, notes=()):
+    """The picture of some jobs as SVG, in lines: for a file, or inside of a page. The notes are lines below its title."""
+    head = 30 if title else 0
+    layout = Layout(rows, head + 18 * len(notes), view)
     entries, height = legend(layout, rows)
     label = title or "Timeline of a report of zsched"
     yield from opening(WIDTH, layout.foot + height, label, STYLE, is_file, PATTERNS)
     if title:
         yield text(MARGIN, 27, cut_text(title, TITLE_SIZE * 1.1, WIDTH - 2 * MARGIN), "title")
+    for number, note in enumerate(notes, 1):
+        yield text(MARGIN, head + 18 * number, cut_text(note, SMALL_SIZE, WIDTH - 2 * MARGIN), "legend", title=note)
     if rows:
         yield from draw_jobs(layout, rows)
     else:

@@ -192,10 +192,10 @@ def crowd_of(file, chosen, progress=None):
     return crowd
 
 
-def draw_crowd(crowd, title, view=View()):
+def draw_crowd(crowd, title, view=View(), notes=()):
     """The picture of a report's jobs, or of their load if they are too many for rows, in lines of SVG."""
     if crowd.jobs <= picture.MOST_JOBS:
-        return picture.draw(crowd.rows, title, view)
+        return picture.draw(crowd.rows, title, view, notes=notes)
     return draw_strip(crowd.load, title, note_of(crowd), view)
 
 

@@ -11,11 +11,16 @@ WIDEST_RESULT = 30
 MOST_AFTER = 999
 
 
+def plain_name(text, allowed="._"):
+    """A name for the job of a policy, made of the letters and digits of a text."""
+    return re.sub(rf"[^A-Za-z0-9{allowed}]+", "-", text).strip("-")[:48].strip("-") or "policy"
+
+
 def job_names(policies):
-    """A name for the job of each policy, made of its letters and digits."""
+    """A name for the job of each Policy: its own, or one made of its text."""
     names = []
     for policy in policies:
-        plain = re.sub(r"[^A-Za-z0-9]+", "-", policy).strip("-")[:48].strip("-") or "policy"
+        plain = policy.name or plain_name(policy.text, "")
         name, number = plain, 2
         while name in names:
             name, number = f"{plain}-{number}", number + 1
@@ -23,12 +28,12 @@ def job_names(policies):
     return names
 
 
-def plan_of(schedules, mode, horizon, entries, policies=None):
-    """The text of a plan with a job for each schedule, all with the same script. The policies give the names."""
-    script = ", ".join(f'{{ "ms": {ms}, "{word}": {value} }}' for ms, word, value in entries)
+def plan_of(horizon, mode, jobs):
+    """The text of a plan with these jobs, each a name, a schedule and the entries of a script."""
     jobs = [f'    {{\n      "name": "{name}",\n      "mode": "{mode}",\n      "schedule": '
-            f'{json.dumps(schedule, ensure_ascii=False)},\n      "script": [{script}]\n    }}'
-            for name, schedule in zip(job_names(policies or schedules), schedules)]
+            f'{json.dumps(schedule, ensure_ascii=False)},\n      "script": ['
+            + ", ".join(f'{{ "ms": {ms}, "{word}": {value} }}' for ms, word, value in entries) + "]\n    }"
+            for name, schedule, entries in jobs]
     return f'{{\n  "horizon": {horizon},\n  "jobs": [\n' + ",\n".join(jobs) + "\n  ]\n}\n"
 
 

@@ -16,8 +16,8 @@ decides.
   order-17: attempt 3: 80 ms early, at 260 ms and not 340 ms
   40 requests, 83 attempts: 1 early, in 1 request
 
-early    the attempt begins before the policy's moment, by more than --tolerance
-late     .. after it, by more than --tolerance
+early    the attempt begins before the policy's moment, by more than --tolerance; of random waits before the least draw
+late     .. after it, by more than --tolerance; of random waits after the greatest draw
 extra    the policy gave up before it, or the request had ended
 missing  the attempt never comes, and the log goes on after its moment
 
@@ -44,7 +44,7 @@ def work(given):
     given.zsched = program.find(given.zsched)
     name = "standard input" if given.log == "-" else given.log
     data = command.read(given.log)
-    drawn.check_schedule(TOOL, given)
+    policy = drawn.check_schedule(TOOL, given)
     notes = Notes()
     log = call_log.Reader(shown(name, WIDTH), data, given, notes)
     if not log.has_moments:
@@ -53,7 +53,7 @@ def work(given):
     print(f"{TOOL}: {log.path}: {told}", file=sys.stderr)
     for place, text in notes.lines():
         print(f"{TOOL}: {log.path}:{log.word}{place}: {text}", file=sys.stderr)
-    found = compared(log.calls, given.schedule, given.mode, given.tolerance, given.zsched)
+    found = compared(log.calls, policy.ends(), given.mode, given.tolerance, given.zsched)
     if given.json:
         print(found.json())
         return command.NO if found.differences else 0

@@ -8,6 +8,7 @@ log did. At step k it is done, and the decision of the whole is that of S.
 
 A script has at most 1,000 entries, and the last one repeats. The jobs of a longer request end with (S && recurs(n)), or
 have a clock whose moments are the ends of its attempts."""
+import functools
 import json
 import re
 from typing import NamedTuple
@@ -50,7 +51,7 @@ class Difference(NamedTuple):
             what = f"missing, expected at {duration(self.expected_ms)}: {self.why}"
         else:
             off = duration(abs(self.found_ms - self.expected_ms))
-            what = f"{off} {self.kind}, at {duration(self.found_ms)} and not {duration(self.expected_ms)}"
+            what = f"{off} {self.kind}, at {duration(self.found_ms)} and not {duration(self.expected_ms)}{self.why}"
         return f"{self.request}: attempt {self.attempt}: {what}"
 
 
@@ -80,17 +81,23 @@ class Compared(NamedTuple):
         return f"{head}: {', '.join(parts)}, in {requests}"
 
 
-def compared(calls, schedule, mode, tolerance, zsched):
-    """Compares a log's attempts with a policy."""
+def compared(calls, ends, mode, tolerance, zsched):
+    """Compares a log's attempts with a policy, the `ends` of whose waits are as Policy.ends returns them."""
     by_name = by_request(calls)
     requests = {name: _attempts(found) for name, found in by_name.items()}
     latest = max((call.begin + (call.length or 0) for call in calls), default=0)
-    waits = Decisions(schedule, mode, zsched, requests).waits
+    *schedules, is_less = ends
+    waits = {it: Decisions(it, mode, zsched, requests).waits for it in schedules}
+    least, most = (waits[it] for it in schedules)
     differences = []
+
+    def wait_after(name, number):
+        """The least and the greatest wait after an attempt, or None."""
+        wait = most.get((name, number))
+        return wait if wait is None else (0 if is_less else least[name, number], wait)
     for name, found in requests.items():
-        ends = in_ms(latest - by_name[name][0].begin)
-        differences += _differences(name, found, mode, lambda number, name=name: waits.get((name, number)), tolerance,
-                                    ends)
+        end = in_ms(latest - by_name[name][0].begin)
+        differences += _differences(name, found, mode, functools.partial(wait_after, name), tolerance, end)
     return Compared(len(requests), len(calls), differences)
 
 
@@ -200,19 +207,20 @@ def _differences(name, found, mode, wait_after, tolerance, ends):
     stopped = None
     for number, attempt in enumerate(found, 1):
         if number > 1 and stopped is None:
-            before = found[number - 2]
-            wait = wait_after(number - 1)
-            if wait is None:
+            waits, before = wait_after(number - 1), found[number - 2].end
+            if waits is None:
                 stopped = f"the policy gave up after attempt {number - 1}"
-            elif abs(attempt.begin - before.end - wait) > tolerance:
-                expected = before.end + wait
-                kind = "early" if attempt.begin < expected else "late"
-                yield Difference(name, number, kind, expected, attempt.begin, "")
+            elif attempt.begin < before + waits[0] - tolerance:
+                why = " or later" * (waits[0] < waits[1])
+                yield Difference(name, number, "early", before + waits[0], attempt.begin, why)
+            elif attempt.begin > before + waits[1] + tolerance:
+                why = " or earlier" * (waits[0] < waits[1])
+                yield Difference(name, number, "late", before + waits[1], attempt.begin, why)
         if stopped is not None:
             yield Difference(name, number, "extra", None, attempt.begin, stopped)
         elif _is_last(attempt, mode):
             stopped = f"attempt {number} {'succeeded' if attempt.is_ok else 'failed'}"
-    wait = wait_after(len(found)) if stopped is None else None
-    if wait is not None and found[-1].end + wait + tolerance < ends:
+    waits = wait_after(len(found)) if stopped is None else None
+    if waits and found[-1].end + waits[1] + tolerance < ends:
         why = f"the log goes on up to {duration(ends)}"
-        yield Difference(name, len(found) + 1, "missing", found[-1].end + wait, None, why)
+        yield Difference(name, len(found) + 1, "missing", found[-1].end + waits[1], None, why)

@@ -65,7 +65,7 @@ budget     a bucket of tokens for retries that all clients of a policy share. It
 policies   schedules by name, or other texts that zsched-try takes, as "(exponential(100) && recurs(9)) jitter full" and
            "@service.yaml#checkout". rand(LO, HI) is a number drawn once for each client. jitter(BASE, CAP, N) is a
            schedule of N delays, the k-th drawn from 0 to the smaller of CAP and BASE * 2^(k - 1). The same seed gives the
-           same bytes.
+           same bytes. If a config limits its attempts, a longer one fails then, as if the service were down.
 
 How a run is simulated: the proved program first runs all clients as if the service served no attempt. The moment at which
 an attempt begins sets its outcome. The program runs the clients again until no outcome changes. Only the program steps
@@ -103,7 +103,7 @@ def _check_policies(scenario, zsched):
             schedule = policy.schedule(_drawn_by(scenario, name))
         except FaultAt as fault:
             raise FaultAt(in_text(node, fault.cause)) from None
-        policy.show(TOOL)
+        policy.show(TOOL, True)
         status, _, line = program.report_of(zsched, program.one_job(0, schedule, scenario.outcomes[DOWN].entry()), 1)
         if status == 2:
             fault = line.decode(errors="replace").strip().removeprefix("zsched: job 0: schedule: ")
@@ -123,6 +123,7 @@ def _settled(scenario, zsched, name, most_passes, say):
 def simulate(scenario, zsched, name, most_passes, say):
     """The run of one policy: its jobs, plans, the most jobs of a plan, reports and figures. `say` is called at each step
     with the share that is done and a line. It raises Unsettled or Uncertified."""
+    scenario = scenario.limited(scenario.policies[name][0].timeout)
     try:
         jobs, endings, others, passes = _settled(scenario, zsched, name, most_passes, say)
         plans, most = cut_plans(scenario.horizon, jobs)

@@ -175,7 +175,8 @@ def _time(time):
 
 def headline(scenario):
     """The scenario in one line."""
-    words = [f"{len(scenario.starts):,} clients {scenario.coming}", *map(window_words, scenario.windows)]
+    clients = f"{len(scenario.starts):,} client{'s' * (len(scenario.starts) != 1)}"
+    words = [f"{clients} {scenario.coming}", *map(window_words, scenario.windows)]
     if scenario.budget is not None:
         words.append(f"a budget like {scenario.budget.like}'s")
     return "; ".join([*words, f"until {duration(scenario.horizon)}", f"seed {scenario.seed}"])

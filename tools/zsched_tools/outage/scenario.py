@@ -4,10 +4,11 @@ place.
 All moments and durations are milliseconds here; in the file they are whole numbers or texts such as "1.5s"."""
 import fractions
 import re
-from dataclasses import dataclass, field
+from dataclasses import dataclass, field, replace
 from typing import NamedTuple
 
 from zsched_tools import json_reading, not_json
+from zsched_tools.command import Refused
 from zsched_tools.drawn import Policy
 from zsched_tools.durations import milliseconds
 from zsched_tools.hints import near
@@ -73,6 +74,11 @@ class Scenario:
         without one, or if the horizon comes first."""
         ends = [window.end for window in self.windows if window.state == DOWN]
         return max(ends) if ends and max(ends) <= self.horizon else None
+
+    def limited(self, timeout):
+        """The scenario with a limit of an attempt, or None: a longer one fails then, as if the service were down."""
+        late = timeout and Outcome(timeout, False, self.outcomes[DOWN].value)
+        return replace(self, outcomes=[late if late and it.ms > timeout else it for it in self.outcomes])
 
 
 DEFAULTS = [Outcome(40, True, 200), Outcome(50, False, 503), Outcome(2000, True, 200)]
@@ -295,6 +301,8 @@ class _Reading:
                 self.scenario.policies[name] = (Policy(value.string()), value)
             except FaultAt as fault:
                 raise FaultAt(in_text(value, fault.cause)) from None
+            except Refused as refused:
+                _refuse(value, str(refused))
 
 
 def in_text(node, cause):

@@ -14,6 +14,7 @@ from zsched_tools.outage.scenario import DOWN
 from zsched_tools.outage.world import CUT, DENIED, DONE, GOES_ON, UNDENIED, Run, Walk
 from zsched_tools.program import MOST_ENTRIES, MOST_JOBS, cut_plans, job_text, run_plan
 from zsched_tools.reports import attempts_in, blocks_of, ending_in
+from zsched_tools.words import plural
 
 # The most attempts of a policy, and about how many a plan makes of clients with many.
 MOST_ATTEMPTS, ATTEMPTS_OF_PLAN = 50_000_000, 1_000_000
@@ -81,7 +82,8 @@ class Search:
             for client in are_open:
                 guesses[client] = self._failures(walk.found[client])
         names = ", ".join(map(name_of, are_open[:10])) + (", .." if len(are_open) > 10 else "")
-        raise Unsettled(f"doesn't settle in {self.most_passes} passes; {len(are_open)} clients are open: {names}")
+        raise Unsettled(f"doesn't settle in {self.most_passes} passes; {plural(len(are_open), 'client')} "
+                        f"{'is' if len(are_open) == 1 else 'are'} open: {names}")
 
     def _failures(self, found):
         """The failures among the kinds of a client's attempts. Only the last attempt may be a success."""

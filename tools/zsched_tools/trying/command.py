@@ -14,7 +14,7 @@ from zsched_tools.program import LAST_MOMENT
 from zsched_tools.progress import Now
 from zsched_tools.schedule_rules import any_cause
 from zsched_tools.strip import crowd_of, draw_crowd
-from zsched_tools.trials import MOST_AFTER, plan_of, tried_in
+from zsched_tools.trials import MOST_AFTER, job_names, plan_of, tried_in
 from zsched_tools.words import duration, plural
 
 TOOL = "zsched-try"
@@ -44,7 +44,10 @@ A policy is a schedule, or one of these, and standard error shows the schedule t
   delays(1s, 1.5s, 2.25s)                     these waits, one after another
   exponential(1s, 1.5, max 10s, 9 retries)    a factor with a fraction, a cap, a number of retries
   (exponential(100) && recurs(5)) jitter full each wait drawn from 0 to it; jitter equal from half of it, jitter 20% from
-                                              80 % to 120 % of it, jitter 2/3..1 from two thirds of it"""
+                                              80 % to 120 % of it, jitter 2/3..1 from two thirds of it
+  slow: spaced(1000)                          a policy with a name, which the picture and the plan have
+
+The limit of an attempt that a config has counts as --attempt does, unless that is given."""
 EPILOG = """A policy that is unfinished at --until has neither an end nor a last attempt, so it exceeds every --max-total
 and --max-attempts. Its waits count up to --until. --max-.. are limits of this run, --require-.. of every run. The whole
 call is from the begin of the first attempt to the end of the last.
@@ -87,12 +90,19 @@ def _count(most):
     return command.number(0, most, f'"{{}}" is not a whole number up to {most}')
 
 
-def _entries(given):
-    """The entries of the script of all policies."""
-    longest = given.attempt and given.attempt[1]
+def _attempt(given, policy):
+    """The least and the greatest duration of a policy's attempts, by --attempt or its config, or None."""
+    return given.attempt or (policy.timeout and (1, policy.timeout))
+
+
+def _entries(given, policy):
+    """The entries of the script of a policy. Without a limit its attempts take as long as those of the other policies."""
+    limits = _attempt(given, policy)
+    longest = limits[1] if limits else max((it.timeout for it in given.read if it.timeout), default=None)
     for option, entry in [("--fails", given.fails), ("--then", given.then)]:
-        if entry and longest and not given.attempt[0] <= entry[0] <= longest:
-            raise Refused(f"an attempt of {option} takes {duration(entry[0])}, which --attempt excludes")
+        if entry and limits and not limits[0] <= entry[0] <= longest:
+            what = "--attempt" if given.attempt else f"the limit of {policy.text}, {duration(longest)},"
+            raise Refused(f"an attempt of {option} takes {duration(entry[0])}, which {what} excludes")
     first = given.fails or (longest or 40, *(("err", 503) if given.mode == "retry" else ("ok", 200)))
     if given.after is None:
         if given.then:
@@ -131,9 +141,12 @@ def _not_proved(given, bounds):
 
 def bounds_of_all(given):
     """The bounds of the policies for every input; None for each if zsched-bounds isn't found and isn't required."""
-    path = program.find_bounds(given.bounds)
+    path, attempts = program.find_bounds(given.bounds), [_attempt(given, policy) for policy in given.read]
+    if getattr(given, "require_end", None) is not None and None in attempts:
+        raise Refused("--require-end needs --attempt TIME, the greatest duration of an attempt")
     if path is not None:
-        return bounding.of_policies(path, given.read, given.attempt)
+        groups = [given.read] if len(set(attempts)) == 1 else [[it] for it in given.read]
+        return [it for group in groups for it in bounding.of_policies(path, group, _attempt(given, group[0]))]
     if any(value is not None for name, value in vars(given).items() if name.startswith("require_")):
         raise Refused("--require-.. needs zsched-bounds, which is neither built nor installed; set --bounds PATH or "
                       "ZSCHED_BOUNDS")
@@ -166,9 +179,12 @@ def _wrong(tool, given, cause):
         print(shown, file=sys.stderr)
 
 
-def of_all(policy, attempt):
-    """What the bounds of a policy are for, with these durations of attempts."""
-    every = "for every draw and input" if policy.is_drawn else "for every input"
+def of_all(given, *policies):
+    """What the bounds of policies are for, with the durations of their attempts."""
+    every = "for every draw and input" if any(it.is_drawn for it in policies) else "for every input"
+    attempt, *others = {_attempt(given, it) for it in policies}
+    if others:
+        return f"{every} and each one's attempts"
     if attempt is None:
         return every
     times = [f"at most {duration(attempt[1])}"] if attempt[0] == 1 else dict.fromkeys(map(duration, attempt))
@@ -178,7 +194,8 @@ def of_all(policy, attempt):
 def _print_all(given, report, all_bounds):
     """The lines of the policies, or the picture; and the bounds that they exceed. Returns the status."""
     if given.svg:
-        for line in draw_crowd(crowd_of(io.BytesIO(report), []), given.title):
+        notes = [f"{name}: {it.source}" for name, it in zip(job_names(given.read), given.read)]
+        for line in draw_crowd(crowd_of(io.BytesIO(report), []), given.title, notes=notes):
             print(line)
     paint, status = Paint(given.color, sys.stdout), 0
     widest = max(map(len, given.policies)) + 2 if len(given.policies) > 1 else 0
@@ -188,7 +205,7 @@ def _print_all(given, report, all_bounds):
             ending, after, rest = found.line().partition(" after ")
             print((policy.text.ljust(widest) if widest else "") + paint(style, ending) + after + rest)
             if bounds is not None:
-                print(" " * widest + f"{of_all(policy, given.attempt)}: {bounds.line()}")
+                print(" " * widest + f"{of_all(given, policy)}: {bounds.line()}")
         for words in [*_exceeded(given, policy, found), *(_not_proved(given, bounds) if bounds is not None else [])]:
             sys.stdout.flush()
             print(f"{TOOL}: {policy.text}: {words}", file=sys.stderr)
@@ -226,21 +243,20 @@ def tried(tool, given, is_plan=False):
     None."""
     try:
         _read(given)
-        plan = plan_of(given.schedules, given.mode, given.until, _entries(given), given.policies)
+        jobs = zip(job_names(given.read), given.schedules, (_entries(given, policy) for policy in given.read))
+        plan = plan_of(given.until, given.mode, jobs)
         report = plan if is_plan else _run(tool, given, plan.encode())
     except FaultAt as fault:
         return _wrong(tool, given, fault.cause)
     for policy, schedule in zip(given.read, given.schedules):
-        policy.show(tool)
+        policy.show(tool, given.attempt is None)
         if policy.is_drawn:
             print(f"{tool}: {policy.text} with the seed {given.seed} is {schedule}", file=sys.stderr)
     return report
 
 
 def _check_requirements(given):
-    """Rejects --require-end without a duration, and warns of attempts beside which the waits alone say little."""
-    if given.require_end is not None and given.attempt is None:
-        raise Refused("--require-end needs --attempt TIME, the greatest duration of an attempt")
+    """Warns of attempts beside which the waits alone say little."""
     total, longest = given.require_total, given.fails[0] if given.fails else 0
     if total is not None and 10 * longest > total:
         print(f"{TOOL}: --require-total limits the waits alone, and each attempt of --fails takes {duration(longest)}; "
