@@ -47,8 +47,10 @@ class Reading:
     def read(self):
         """Reads the value of the whole text; raises FaultAt."""
         begin = self.skip(0)
-        if begin == len(self.text) or self.text.startswith("\ufeff"):
-            raise FaultAt(not_json.no_plan(self.text))
+        if self.text.startswith("\ufeff"):
+            raise FaultAt(Cause(0, 1, "the plan begins with a byte order mark", "save it as UTF-8 without one"))
+        if begin == len(self.text):
+            raise FaultAt(Cause(0, 0, "the plan is empty", f"a plan begins as {not_json.SKETCH}"))
         rest = self.skip(self.end_of(begin))
         if rest < len(self.text):
             raise FaultAt(not_json.more_text(self.text, rest))
@@ -70,7 +72,8 @@ class Reading:
         if not number:
             raise FaultAt(not_json.no_value(self, at))
         if float(number[0]) in (float("inf"), float("-inf")):
-            raise FaultAt(not_json.too_large(at, number.end()))
+            raise FaultAt(Cause(at, number.end() - at, "this number is too large for any reader of JSON",
+                                "the greatest number of a plan is 18446744073709551615"))
         return number.end()
 
     def end_of_container(self, at):

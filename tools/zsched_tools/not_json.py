@@ -2,7 +2,7 @@
 import re
 
 from zsched_tools.durations import UNITS, in_milliseconds
-from zsched_tools.place import Cause, line_of
+from zsched_tools.place import Cause, choose, line_of
 from zsched_tools.positions import run_of
 from zsched_tools.words import shown
 
@@ -40,64 +40,40 @@ _OTHER_TEXTS = [
 
 def other_text(text, at):
     """The cause at the place at which a text stops being JSON, if the whole text is something else, or None."""
-    line = text.rfind("\n", 0, at) + 1
-    if re.compile(r"<{7} |={7}$|>{7} ", re.M).match(text, line):
-        return Cause(at, 1, "this is a conflict mark of a merge",
-                     "remove one side, and the lines <<<<<<<, ======= and >>>>>>>")
-    if re.compile(r"\{[{%]|\$[{(]").match(text, max(0, at - (text[at - 1:at] == "{"))):
-        return Cause(at, 1, "this template isn't filled in", "write the value here: zsched fills in no templates")
-    begin = text.lstrip(_SPACE)[:4000]
-    for pattern, what, help in _OTHER_TEXTS:
-        if re.match(pattern, begin):
-            return Cause(at, 1, what, help)
-    return None
-
-
-def no_plan(text):
-    """The text is empty, or begins with a mark that isn't JSON's."""
-    if text.startswith("\ufeff"):
-        return Cause(0, 1, "the plan begins with a byte order mark", "save it as UTF-8 without one")
-    return Cause(0, 0, "the plan is empty", f"a plan begins as {SKETCH}")
+    begin, is_braced = text.lstrip(_SPACE)[:4000], text[at - 1:at] == "{"
+    return choose(
+        at, (re.compile(r"<{7} |={7}$|>{7} ", re.M).match(text, text.rfind("\n", 0, at) + 1), 1,
+             "this is a conflict mark of a merge", "remove one side, and the lines <<<<<<<, ======= and >>>>>>>"),
+        (re.compile(r"\{[{%]|\$[{(]").match(text, max(0, at - is_braced)), 1,
+         "this template isn't filled in", "write the value here: zsched fills in no templates"),
+        *((re.match(pattern, begin), 1, what, help) for pattern, what, help in _OTHER_TEXTS))
 
 
 def no_utf8(data, text, at):
     """The byte at this place of the text isn't UTF-8's."""
-    if data[:2] in (b"\xff\xfe", b"\xfe\xff"):
-        return Cause(at, 1, "this is UTF-16, not UTF-8", "save the plan as UTF-8")
-    for begin, (what, help) in _PACKED.items():
-        if data.startswith(begin):
-            return Cause(at, 1, what, help)
-    byte = data[len(text[:at].encode())]
-    return Cause(at, 1, f"this byte, {byte:#04x}, is not UTF-8", "save the plan as UTF-8")
+    byte, help = data[len(text[:at].encode())], "save the plan as UTF-8"
+    return choose(at, (data[:2] in (b"\xff\xfe", b"\xfe\xff"), 1, "this is UTF-16, not UTF-8", help),
+                  *((data.startswith(begin), 1, *texts) for begin, texts in _PACKED.items()),
+                  (True, 1, f"this byte, {byte:#04x}, is not UTF-8", help))
 
 
 def more_text(text, at):
     """The document has ended, and more follows."""
-    mark = text[at]
-    if mark in "}]":
-        return Cause(at, 1, f"this {mark} closes nothing", "remove it, or add the bracket that it closes")
-    if mark in "{[":
-        is_population = '"jobs"' not in text[:at] and '"name"' in text[at:at + 4000]
-        help = "zsched-plan split N --lines makes plans of a document and of jobs in lines" if is_population else \
-            "a plan is one document, with one list of jobs"
-        return Cause(at, 1, "a second document begins here", help)
-    if mark == ":" or re.match(r'\s*"?\w+"?\s*:', text):
-        return Cause(at, 1, "the plan has ended, and more follows", f"a plan is an object in braces: {SKETCH}")
-    return _comment(text, at) or Cause(at, 1, "the plan has ended, and more follows", "remove it")
-
-
-def too_large(at, end):
-    """The number from `at` to `end` is larger than any 64-bit float."""
-    return Cause(at, end - at, "this number is too large for any reader of JSON",
-                 "the greatest number of a plan is 18446744073709551615")
+    mark, second, more = text[at], "a second document begins here", "the plan has ended, and more follows"
+    return choose(
+        at, (mark in "}]", 1, f"this {mark} closes nothing", "remove it, or add the bracket that it closes"),
+        (mark in "{[" and '"jobs"' not in text[:at] and '"name"' in text[at:at + 4000], 1, second,
+         "zsched-plan split N --lines makes plans of a document and of jobs in lines"),
+        (mark in "{[", 1, second, "a plan is one document, with one list of jobs"),
+        (mark == ":" or re.match(r'\s*"?\w+"?\s*:', text), 1, more, f"a plan is an object in braces: {SKETCH}"),
+    ) or _comment(text, at) or Cause(at, 1, more, "remove it")
 
 
 def _comment(text, at):
     """The cause if a comment begins here, else None."""
-    if not text.startswith(_COMMENTS, at):
-        return None
     end = text.find("\n", at)
-    return Cause(at, (end if end >= 0 else len(text)) - at, "JSON has no comments", "remove it")
+    size = (end if end >= 0 else len(text)) - at
+    return Cause(at, size, "JSON has no comments", "remove it") if text.startswith(_COMMENTS, at) else None
 
 
 def no_value(reading, at):
@@ -110,7 +86,7 @@ def no_value(reading, at):
     if not reading.open:
         return _comment(text, at) or _no_beginning(text, at)
     if mark in "]},:;=":
-        return _missing_value(reading, at)
+        return _missing_value(text, at, mark)
     if mark in "+-." or mark.isdigit():
         return _bad_number(text, at)
     if mark in _QUOTES:
@@ -122,8 +98,7 @@ def no_value(reading, at):
 def _no_beginning(text, at):
     """No plan begins like this."""
     if re.compile(r"\w+[ \t]*:").match(text, at):
-        return Cause(at, 1, "this looks like YAML, and a plan is JSON",
-                     f"{FROM}write {SKETCH}")
+        return Cause(at, 1, "this looks like YAML, and a plan is JSON", f"{FROM}write {SKETCH}")
     if text[at].isspace() or not text[at].isprintable():
         return _odd_letter(text, at)
     return Cause(at, 1, "no plan begins like this", f"a plan begins as {SKETCH}")
@@ -133,82 +108,63 @@ def _early_end(reading, at):
     """The text ends before a value does."""
     if not reading.open:
         return Cause(at, 0, "the plan ends too early")
-    opened = reading.open[-1]
-    mark = reading.text[opened]
-    return Cause(at, 0, "the plan ends too early",
-                 f"{_CLOSING[mark]} is missing: the {mark} of line {line_of(reading.text, opened)} is still open")
+    mark, line = reading.text[reading.open[-1]], line_of(reading.text, reading.open[-1])
+    return Cause(at, 0, "the plan ends too early", f"{_CLOSING[mark]} is missing: the {mark} of line {line} is still open")
 
 
-def _place_before(text, at):
-    """The place of the last character before this one that isn't white space. A bracket is open, so there is one."""
-    return len(text[:at].rstrip(_SPACE)) - 1
-
-
-def _missing_value(reading, at):
+def _missing_value(text, at, mark):
     """A mark, but a value is expected."""
-    text, mark = reading.text, reading.text[at]
-    before = _place_before(text, at)
+    before = len(text[:at].rstrip(_SPACE)) - 1
     last = text[before]
     if last == "," and mark in "]}":
         return Cause(before, 1, f"a comma before {mark}", "remove it: JSON has commas only between parts")
-    if last == "," and mark == ",":
-        return Cause(at, 1, "a second comma", "remove it")
-    if last == ":":
-        return Cause(at, 1, f"a value is missing before this {mark}")
-    if last == "[" and mark == ",":
-        return Cause(at, 1, "a comma before the first item", "remove it")
-    return Cause(at, 1, f"no value begins with {mark}")
+    return choose(at, (last == "," and mark == ",", 1, "a second comma", "remove it"),
+                  (last == ":", 1, f"a value is missing before this {mark}"),
+                  (last == "[" and mark == ",", 1, "a comma before the first item", "remove it"),
+                  (True, 1, f"no value begins with {mark}"))
 
 
 def _bad_number(text, at):
     """A number that isn't in JSON's form."""
     source = re.compile(r"[+-]?[0-9A-Za-z_.]*(?:(?<=[eE])[+-][0-9]*)?").match(text, at)[0] or text[at]
-    if source[0] == "+":
-        return Cause(at, len(source), "a number has no plus before it", f"write {shown(source[1:])}")
-    if re.fullmatch(r"-?\.[0-9]+", source):
-        return Cause(at, len(source), "a number begins with a digit", "a plan has only whole numbers")
-    return Cause(at, len(source), "this is not a number", "write only digits")
+    return choose(at, (source[0] == "+", len(source), "a number has no plus before it", f"write {shown(source[1:])}"),
+                  (re.fullmatch(r"-?\.[0-9]+", source), len(source), "a number begins with a digit",
+                   "a plan has only whole numbers"), (True, len(source), "this is not a number", "write only digits"))
 
 
 def _bare_word(text, at, word):
     """A word, but a value is expected."""
-    if word in _CONSTANTS:
-        return Cause(at, len(word), f"JSON has no {word}", f"{_CONSTANTS[word]} is JSON's word, but no value of a plan")
-    if word in ("NaN", "Infinity", "inf", "nan"):
-        return Cause(at, len(word), f"JSON has no {word}", "write a whole number")
     call = re.compile(r"\w+ *\([^\"\n{}\[\]]*\)").match(text, at)
     whole = call[0] if call else word
-    return Cause(at, len(whole), "a text without quotes", f'write "{shown(whole, 60)}"')
+    return choose(at, (word in _CONSTANTS, len(word), f"JSON has no {word}",
+                       f"{_CONSTANTS.get(word)} is JSON's word, but no value of a plan"),
+                  (word in ("NaN", "Infinity", "inf", "nan"), len(word), f"JSON has no {word}", "write a whole number"),
+                  (True, len(whole), "a text without quotes", f'write "{shown(whole, 60)}"'))
 
 
 def _odd_letter(text, at):
     """A letter or mark that begins nothing."""
     letter = text[at]
-    if letter.isspace() or not letter.isprintable():
-        return Cause(at, 1, f"the character U+{ord(letter):04X} isn't JSON's white space", "write a space")
-    if letter == "(":
-        return Cause(at, 1, "JSON has no parentheses", "write [ ] or { }; a schedule is a text in quotes")
-    return Cause(at, 1, f"no value begins with {letter}")
+    return choose(at, (letter.isspace() or not letter.isprintable(), 1,
+                       f"the character U+{ord(letter):04X} isn't JSON's white space", "write a space"),
+                  (letter == "(", 1, "JSON has no parentheses", "write [ ] or { }; a schedule is a text in quotes"),
+                  (True, 1, f"no value begins with {letter}"))
 
 
 def _bad_string(text, at):
     """A text in quotes that doesn't end, or that has a character that isn't allowed."""
     letters = (r'[^"\\\x00-\x1f]++|\\["\\/bfnrt]|\\u(?![dD][89a-fA-F])[0-9a-fA-F]{4}'
                r'|\\u[dD][89abAB][0-9a-fA-F]{2}\\u[dD][c-fC-F][0-9a-fA-F]{2}')
-    plain = re.compile('"' + run_of(letters)).match(text, at)
-    stop = plain.end()
+    stop = re.compile('"' + run_of(letters)).match(text, at).end()
     mark = text[stop:stop + 1]
     if mark in ("", "\n", "\r"):
-        return Cause(at, stop - at, "this text has no quote at its end",
-                     'write " at its end; a text is on one line')
-    if mark == "\\":
-        escape = re.compile(r"\\(?:u[0-9a-fA-F]{0,4}|.?)", re.S).match(text, stop)[0]
-        if re.fullmatch(r"\\u[dD][89a-fA-F][0-9a-fA-F]{2}", escape):
-            return Cause(stop, len(escape), f"{escape} is half of a character", "write the character, or both halves")
-        return Cause(stop, len(escape), f"{shown(escape)} is not an escape of JSON", "write \\\\ for a backslash")
-    if mark == "\t":
-        return Cause(stop, 1, "a text can't contain a tab", "write a space, or \\t")
-    return Cause(stop, 1, f"a text can't contain the character U+{ord(mark):04X}", "remove it")
+        return Cause(at, stop - at, "this text has no quote at its end", 'write " at its end; a text is on one line')
+    escape = re.compile(r"\\(?:u[0-9a-fA-F]{0,4}|.?)|", re.S).match(text, stop)[0]
+    return choose(stop, (re.fullmatch(r"\\u[dD][89a-fA-F][0-9a-fA-F]{2}", escape), len(escape),
+                         f"{escape} is half of a character", "write the character, or both halves"),
+                  (escape, len(escape), f"{shown(escape)} is not an escape of JSON", "write \\\\ for a backslash"),
+                  (mark == "\t", 1, "a text can't contain a tab", "write a space, or \\t"),
+                  (True, 1, f"a text can't contain the character U+{ord(mark):04X}", "remove it"))
 
 
 def no_key(reading, at):
@@ -219,39 +175,32 @@ def no_key(reading, at):
     if mark == '"':
         return _bad_string(text, at)
     if mark in "]},:":
-        return _missing_key(reading, at)
-    if mark in _QUOTES:
-        return Cause(at, 1, "these aren't JSON's quotes", 'write "')
-    digits = re.compile(r"[0-9]+").match(text, at)
+        return _missing_key(reading, at, mark)
+    digits, word = re.compile(r"[0-9]+").match(text, at), _WORD.match(text, at)
     before = re.compile(r"[0-9]+,[ ]?$").search(text, max(0, at - 40), at)
-    if digits and before:
-        return Cause(at, len(digits[0]), "a number in two parts", f"write {before[0].rstrip(', ')}{shown(digits[0])}")
-    word = _WORD.match(text, at)
-    if word:
-        return Cause(at, len(word[0]), "a key without quotes", f'write "{shown(word[0])}"')
-    return _comment(text, at) or Cause(at, 1, f"this is {shown(mark)}, but a key in quotes is expected",
-                                       'the parts of an object are written "key": value')
+    return choose(at, (mark in _QUOTES, 1, "these aren't JSON's quotes", 'write "'),
+                  (digits and before, digits and len(digits[0]), "a number in two parts",
+                   digits and before and f"write {before[0].rstrip(', ')}{shown(digits[0])}"),
+                  (word, word and len(word[0]), "a key without quotes", word and f'write "{shown(word[0])}"'),
+                  ) or _comment(text, at) or Cause(at, 1, f"this is {shown(mark)}, but a key in quotes is expected",
+                                                   'the parts of an object are written "key": value')
 
 
-def _missing_key(reading, at):
+def _missing_key(reading, at, mark):
     """A mark, but a key is expected."""
-    text, mark = reading.text, reading.text[at]
-    before = _place_before(text, at)
+    text, before = reading.text, len(reading.text[:at].rstrip(_SPACE)) - 1
     if text[before] == "," and mark == "}":
         return Cause(before, 1, "a comma before }", "remove it: JSON has commas only between parts")
-    if mark == ",":
-        what = "a second comma" if text[before] == "," else "a comma before the first key"
-        return Cause(at, 1, what, "remove it")
-    if mark == "]":
-        return Cause(at, 1, "this is ], but a key or a } is expected",
-                     f"the {{ of line {line_of(text, reading.open[-1])} is still open")
-    return Cause(at, 1, f"a key is missing before this {mark}")
+    return choose(at, (mark == "," and text[before] == ",", 1, "a second comma", "remove it"),
+                  (mark == ",", 1, "a comma before the first key", "remove it"),
+                  (mark == "]", 1, "this is ], but a key or a } is expected",
+                   f"the {{ of line {line_of(text, reading.open[-1])} is still open"),
+                  (True, 1, f"a key is missing before this {mark}"))
 
 
 def no_colon(reading, at, end):
     """No colon follows the key from `at` to `end`."""
-    text = reading.text
-    rest = reading.skip(end)
+    text, rest = reading.text, reading.skip(end)
     mark = text[rest:rest + 1]
     if not mark:
         return _early_end(reading, rest)
@@ -260,41 +209,28 @@ def no_colon(reading, at, end):
     if mark in ",}":
         return Cause(at, end - at, "this is only a text, but a key and a value are expected",
                      'the parts of an object are written "key": value')
-    if rest == end and (mark.isalnum() or mark == "_"):
-        return _tail(text, end)
-    return Cause(end, 1, "a colon is missing after this key", "write :")
+    is_tail = rest == end and (mark.isalnum() or mark == "_")
+    return _tail(text, end) if is_tail else Cause(end, 1, "a colon is missing after this key", "write :")
 
 
 def no_comma(reading, end, at):
     """The value that ends at `end` is followed by what is at `at`, not by a comma."""
-    text = reading.text
-    opened = reading.open[-1]
-    is_object, closing = text[opened] == "{", _CLOSING[text[opened]]
-    mark = text[at:at + 1]
+    text, opened, mark = reading.text, reading.open[-1], reading.text[at:at + 1]
+    closing, unit = _CLOSING[text[opened]], _WORD.match(text, at)
     if not mark:
         return _early_end(reading, at)
     if mark in "]}":
         return Cause(at, 1, f"this is {mark}, but {closing} is expected",
                      f"the {text[opened]} of line {line_of(text, opened)} is still open: write {closing} before it")
-    if at == end and (mark.isalnum() or mark in "._+-"):
+    if at == end and (mark.isalnum() or mark in "._+-") or (
+            unit and text[end - 1].isdigit() and unit[0].lower() in UNITS):
         return _tail(text, end)
-    if mark == ";":
-        return Cause(at, 1, "this is a semicolon, but a comma is expected", "write ,")
-    if mark in ":=":
-        return _stray_colon(text, opened, at, is_object)
-    unit = _WORD.match(text, at)
-    if unit and text[end - 1].isdigit() and unit[0].lower() in UNITS:
-        return _tail(text, end)
-    if mark in '"{[' or mark.isalnum() or mark == "-":
-        return Cause(end, 1, "a comma is missing here", "write , after the part that ends here")
-    return _comment(text, at) or Cause(at, 1, f"this is {shown(mark)}, but a comma or {closing} is expected")
-
-
-def _stray_colon(text, opened, at, is_object):
-    """A colon or an = after a value."""
-    if not is_object and text[at] == ":":
-        return Cause(at, 1, "a list has a colon", 'write { } around "key": value')
-    return Cause(at, 1, f"this {text[at]} follows a value", "a comma is missing before it, or there is one quote too many")
+    return choose(at, (mark == ";", 1, "this is a semicolon, but a comma is expected", "write ,"),
+                  (mark == ":" and closing == "]", 1, "a list has a colon", 'write { } around "key": value'),
+                  (mark in ":=", 1, f"this {mark} follows a value",
+                   "a comma is missing before it, or there is one quote too many")) or choose(
+        end, (mark in '"{[-' or mark.isalnum(), 1, "a comma is missing here", "write , after the part that ends here"),
+    ) or _comment(text, at) or Cause(at, 1, f"this is {shown(mark)}, but a comma or {closing} is expected")
 
 
 def _tail(text, end):
@@ -304,16 +240,16 @@ def _tail(text, end):
         begin -= 1
     tail = re.compile(r"[ ]?[\w.+-]+").match(text, end)[0]
     source = text[begin:end] + tail
-    size = len(source)
     if text[end - 1] == '"':
         return Cause(end, len(tail), "this follows the quote that ends a text",
                      'a quote is missing, or there is one too many; inside a text it is written \\"')
-    if not text[begin:begin + 1].isdigit() and text[begin:begin + 1] != "-":
-        return Cause(begin, size, "a text without quotes", f'write "{shown(source)}"')
-    if re.fullmatch(r"[0-9]+(_[0-9]+)+", source):
-        return Cause(begin, size, "a number can't contain _", f"write {shown(source.replace('_', ''))}")
-    if re.fullmatch(r"0[0-9]+", source):
-        return Cause(begin, size, "a number can't begin with 0", f"write {shown(source.lstrip('0') or '0')}")
-    if re.fullmatch(r"-?[0-9]+\.", source):
-        return Cause(begin, size, "digits are missing after the point", f"write {shown(source[:-1])}")
-    return Cause(begin, size, "letters follow a number", in_milliseconds(source) or "write only digits")
+    return choose(
+        begin, (not text[begin:begin + 1].isdigit() and text[begin:begin + 1] != "-", len(source),
+                "a text without quotes", f'write "{shown(source)}"'),
+        (re.fullmatch(r"[0-9]+(_[0-9]+)+", source), len(source), "a number can't contain _",
+         f"write {shown(source.replace('_', ''))}"),
+        (re.fullmatch(r"0[0-9]+", source), len(source), "a number can't begin with 0",
+         f"write {shown(source.lstrip('0') or '0')}"),
+        (re.fullmatch(r"-?[0-9]+\.", source), len(source), "digits are missing after the point",
+         f"write {shown(source[:-1])}"),
+        (True, len(source), "letters follow a number", in_milliseconds(source) or "write only digits"))

@@ -21,6 +21,11 @@ class FaultAt(Exception):
         self.cause = cause
 
 
+def choose(at, *rows):
+    """The cause at a place by the first row that holds, or None. A row is a condition, a size, what is wrong, and a help."""
+    return next((Cause(at, *rest) for is_so, *rest in rows if is_so), None)
+
+
 def line_of(text, at):
     """The number of the line of a place, from 1."""
     return text.count("\n", 0, at) + 1

@@ -178,8 +178,7 @@ def _panel(layout, number, name):
     """A policy's panel: the shaded windows, what ended in each second, and the lines of what began and what runs."""
     top, rows, figures = layout.panel(number), layout.columns[name], layout.figures[name]
     (short, _), (height, _) = [peak or (0, 0) for peak in figures.peaks[:2]]
-    verdict = [f"{figures.attempts:,} attempts", f"peak {height:,} a second, {short:,} in 100 ms",
-               _served(figures)]
+    verdict = [f"{figures.attempts:,} attempts", f"peak {height:,} a second, {short:,} in 100 ms", _served(figures)]
     room = layout.width - MARGIN - layout.left
     called, policy = cut_text(name, LETTERS, room / 3), shown(figures.text, 10 * WIDTH)
     yield text(layout.left, top - WORDS - 23, called, "name", title=name)

@@ -99,8 +99,7 @@ def add_command(forms):
     log.add_argument("--mode", choices=["retry", "repeat"], default="retry", help="(retry)")
     form = log.add_mutually_exclusive_group()
     form.add_argument("--windows", action="store_true", help="a scenario for zsched-outage, not a plan")
-    form.add_argument("--by-attempt", action="store_true",
-                      help="the k-th attempt of a job ends as the k-th in the log")
+    form.add_argument("--by-attempt", action="store_true", help="the k-th attempt of a job ends as the k-th in the log")
     call_log.add_options(log)
     given.add_argument("--zsched", metavar="PATH",
                        help="the program; by default that of ZSCHED, else the built or the installed one")

@@ -55,8 +55,7 @@ class Written:
         self.text = "".join(self._pieces)
 
     def place(self, at):
-        """The place in the file of what is at a place of the text, and whether it is that of a
-        character of a text."""
+        """The place in the file of what is at a place of the text, and whether it is that of a character of a text."""
         number = bisect.bisect_right(self._marks, at, key=lambda mark: mark[0]) - 1
         begin, place, inside = self._marks[number]
         if inside is None or at == begin:

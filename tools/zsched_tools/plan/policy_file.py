@@ -87,8 +87,7 @@ class _Yaml:
                 raise FaultAt(Cause(at, len(name.value), what, "remove one of them"))
             lines[name.value] = line
         self.loader.flatten_mapping(node)
-        return {key(name.value, name.start_mark.index): self.value(item, depth + 1)
-                for name, item in node.value}
+        return {key(name.value, name.start_mark.index): self.value(item, depth + 1) for name, item in node.value}
 
 
 def read_toml(text):
@@ -152,8 +151,7 @@ class _Toml:
             return Value({self._key(name, path, at): self.value(item, path + (name,), at)
                           for name, item in data.items()}, at)
         if isinstance(data, list):
-            return Value([self.value(item, path + (number,), at)
-                          for number, item in enumerate(data)], at)
+            return Value([self.value(item, path + (number,), at) for number, item in enumerate(data)], at)
         if isinstance(data, str):
             return _scalar(data, at, self.text) if path in self.places else Value(data, at)
         if isinstance(data, float):

@@ -96,8 +96,7 @@ def script(value, notes):
     entries = []
     for entry in value.data:
         if isinstance(entry.data, dict) and "ms" in entry.data:
-            names = {name: duration(item, notes) if name == "ms" else item
-                     for name, item in entry.data.items()}
+            names = {name: duration(item, notes) if name == "ms" else item for name, item in entry.data.items()}
             entry = entry._replace(data=names)
         entries.append(entry)
     return value._replace(data=entries)

@@ -30,8 +30,7 @@ zsched; 3 if a program or writing fails."""
 
 def add_command(forms):
     """Adds the command to those of zsched-policy."""
-    given = forms.add_parser("diff", description=ABOUT, epilog=EPILOG,
-                             help="what differs between two policies")
+    given = forms.add_parser("diff", description=ABOUT, epilog=EPILOG, help="what differs between two policies")
     given.add_argument("policies", metavar="A", help="a schedule")
     given.add_argument("other", metavar="B", help="another one")
     add_attempts(given)

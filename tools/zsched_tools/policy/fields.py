@@ -16,8 +16,7 @@ _SIGNED = re.compile(rf"[+-]?{_NUMBER}(?:[eE][+-]?[0-9]{{1,2}})?")
 
 class Policy(NamedTuple):
     """A policy: its waits, the number of retries (None: without an end), what isn't carried over, the time limit of an
-    attempt in milliseconds, the errors that are retried, the range of random waits, and the time limit of all
-    waits."""
+    attempt in milliseconds, the errors that are retried, the range of random waits, and the time limit of all waits."""
     waits: object
     retries: int | None
     left_out: list
