@@ -70,16 +70,6 @@ def test_the_help_shows_a_run_as_it_is_and_the_documents_five(zsched, bounds):
     assert len(SHOWN) == 5
 
 
-def cells(bounds):
-    """The bounds of a table's cell: attempts, the longest wait and all waits. A dash is a number without a limit."""
-    attempts = f"{bounds.least} or more" if bounds.most is None else f"{bounds.least} to {bounds.most}"
-    attempts = attempts if bounds.most != bounds.least else str(bounds.most)
-    longest = None if bounds.longest > bounding.LAST_MOMENT else bounds.longest
-    is_beginning = bounds.most is None and bounds.seen == bounding.MOST_STEPS
-    total = None if longest is None or is_beginning else bounds.total
-    return attempts, *("–" if wait is None else bounding.rounded(wait) for wait in (longest, total))
-
-
 def shown_in(section):
     """The schedules of a recipe that its plan runs, and the table's bounds of each."""
     schedules = re.search(r"^- Schedules? \(.*?(?=^- Plan:)", section, re.M | re.S)[0]
@@ -94,7 +84,7 @@ def shown_in(section):
 def test_the_whole_call_of_five_recipes_with_attempts_of_5_s(bounds):
     rows = re.findall(r"^\| `(.*)` \| (.*) \| (.*) \| (.*) \|$", SECTIONS[0], re.M)
     found = bounding.run(bounds, [it.replace("\\|", "|") for it, *_ in rows], attempt=(1, 5000))
-    assert [(*cells(it)[::2], duration(it.run)) for it in found] == [tuple(row) for _, *row in rows] and len(rows) == 5
+    assert [(*it.cells()[::2], duration(it.run)) for it in found] == [tuple(row) for _, *row in rows] and len(rows) == 5
 
 
 RECIPES = [list(shown_in(section)) for section in SECTIONS if re.search("^- Schedules? ", section, re.M)]
@@ -111,4 +101,4 @@ def test_bounds_of_the_tables_are_those_of_the_program(bounds):
     policies = (TOP / "tests/cases/zsched-try/bounds_worked_out_by_hand/policies").read_text().splitlines()
     assert set(policies) <= {schedule for schedule, _ in TABLES}
     found = bounding.run(bounds, [schedule for schedule, _ in TABLES])
-    assert [cells(it) for it in found] == [row for _, row in TABLES]
+    assert [it.cells() for it in found] == [row for _, row in TABLES]

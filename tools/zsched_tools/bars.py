@@ -42,8 +42,9 @@ class Shapes:
             self._add(attempt, scale.at(attempt.begin), right)
         for shape, after in zip(self.found, self.found[1:]):
             shape.right = max(min(shape.right, after.left), shape.left + LEAST)
-        if self.found:
-            self._keep_inside(self.found[-1], scale.right)
+        # The last shape ends with the plot, or a little after it if it would be too narrow to see.
+        for shape in self.found[-1:]:
+            shape.right = max(min(shape.right, scale.right), shape.left + NARROWEST)
 
     def _add(self, attempt, left, right):
         last = self.found[-1] if self.found else None
@@ -57,11 +58,6 @@ class Shapes:
             last.failed += attempt.outcome == "err"
             return
         self.found.append(Shape(left, right, is_narrow, attempt, attempt, 1, int(attempt.outcome == "err")))
-
-    @staticmethod
-    def _keep_inside(shape, right):
-        """The last shape ends with the plot, or a little after it if it would be too narrow to see."""
-        shape.right = max(min(shape.right, right), shape.left + NARROWEST)
 
 
 def attempt_title(attempt, name):

@@ -57,6 +57,14 @@ class Bounds:
         total = "" if self.total is None else f", {rounded(self.total)} in all"
         return f"waits of at most {rounded(self.longest)}{total}"
 
+    def cells(self):
+        """The attempts, the longest wait and all waits as cells of a table. A dash is a number without a limit."""
+        attempts = f"{self.least} or more" if self.most is None else f"{self.least} to {self.most}"
+        longest = None if self.longest > LAST_MOMENT else self.longest
+        total = None if longest is None or not self.has_all_waits() else self.total
+        return (attempts if self.most != self.least else str(self.most),
+                *("–" if wait is None else rounded(wait) for wait in (longest, total)))
+
     def end(self):
         """The end of the whole call in words. Nothing is said of it if attempts may take any time."""
         if not self.is_limited:
@@ -68,13 +76,6 @@ class Bounds:
         if self.least == 1 and self.most is None and self.longest > LAST_MOMENT:
             return "nothing is proved"
         return f"{self.attempts()}; {self.waits()}{self.end()}"
-
-
-def bounds_of(line):
-    """The bounds in a line of the program."""
-    read = json.loads(line)
-    return Bounds(read["attempts"]["least"], read["attempts"]["most"], read["longest_wait"], read["total_wait"],
-                  read["steps_seen"], read["longest_run"], read["attempt"]["most"] is not None)
 
 
 def of_policies(path, policies, attempt=None):
@@ -111,6 +112,8 @@ def run(path, policies, seconds=None, attempt=None):
     if len(lines) != len(policies):
         raise ChildProcessError(f"{path} printed {plural(len(lines), 'line')} for {len(policies)} policies")
     try:
-        return [bounds_of(line) for line in lines]
+        return [Bounds(read["attempts"]["least"], read["attempts"]["most"], read["longest_wait"], read["total_wait"],
+                       read["steps_seen"], read["longest_run"], read["attempt"]["most"] is not None)
+                for read in map(json.loads, lines)]
     except (ValueError, KeyError, TypeError):
         raise ChildProcessError(f"{path} printed a line without bounds") from None

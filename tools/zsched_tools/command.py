@@ -79,15 +79,10 @@ def add_version(parser):
     add_generate(parser)
 
 
-def add_color(parser):
-    """Adds --color to a command's options."""
-    parser.add_argument("--color", choices=["auto", "always", "never"], default="auto", metavar="WHEN",
-                        help="colours: auto (on a terminal, unless NO_COLOR is set), always or never")
-
-
 def complete(parser):
     """The parser of a command, with the options that all commands have."""
-    add_color(parser)
+    parser.add_argument("--color", choices=["auto", "always", "never"], default="auto", metavar="WHEN",
+                        help="colours: auto (on a terminal, unless NO_COLOR is set), always or never")
     add_version(parser)
     return parser
 
@@ -114,9 +109,7 @@ class Paint:
 def forms(tool, description, epilog, metavar):
     """The parser of a command of several forms, and what adds a form, by `add_parser`."""
     made = functools.partial(argparse.ArgumentParser, epilog=epilog, formatter_class=argparse.RawDescriptionHelpFormatter)
-    whole = made(prog=tool, description=description)
-    add_version(whole)
-    add_color(whole)
+    whole = complete(made(prog=tool, description=description))
     return whole, whole.add_subparsers(required=True, metavar=metavar, parser_class=made)
 
 

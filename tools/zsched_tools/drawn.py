@@ -146,6 +146,16 @@ class Policy:
             at -= len(text)
         return cause
 
+    def check(self, zsched, random=HIGH):
+        """Runs the program on the schedule of a draw. FaultAt has a fault of the schedule."""
+        schedule = self.schedule(random)
+        status, _, errors = program.report_of(zsched, program.one_job(0, schedule, '{"ms":1,"ok":0}'), 1)
+        line = program.failure(status, errors)
+        if status == REFUSED:
+            raise FaultAt(self.cause_at(random, any_cause(schedule, line.partition("schedule: ")[2])))
+        if status:
+            raise OSError(f"{zsched}: {line}")
+
     def limits(self):
         """The schedules whose bounds together hold for every draw: of the greatest waits, of the least waits, and of the
         greatest without a limit of time. None if nothing is known to hold.
@@ -354,7 +364,7 @@ def check_schedule(tool, given):
     found = program.find(given.zsched)
     try:
         policy = Policy(given.schedule, found)
-        schedule = policy.schedule(HIGH)
+        policy.schedule(HIGH)
     except FaultAt as fault:
         raise Refused(told("--schedule", given.schedule, fault.cause)) from None
     if policy.is_drawn and not getattr(given, "windows", tool == "zsched-follows"):
@@ -363,11 +373,8 @@ def check_schedule(tool, given):
         raise Refused("--schedule: the waits of this schedule aren't between those of its least and its greatest draw")
     policy.show(tool)
     given.schedule = policy.source if policy.is_drawn else policy.spelled
-    status, _, errors = program.report_of(found, program.one_job(0, schedule, '{"ms":1,"ok":0}'), 1)
-    line = program.failure(status, errors)
-    if status == 2:
-        cause = policy.cause_at(HIGH, any_cause(schedule, line.partition("schedule: ")[2]))
-        raise Refused(told("--schedule", policy.text, cause))
-    if status:
-        raise OSError(f"{found}: {line}")
+    try:
+        policy.check(found)
+    except FaultAt as fault:
+        raise Refused(told("--schedule", policy.text, fault.cause)) from None
     return policy

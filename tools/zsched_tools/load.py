@@ -64,13 +64,6 @@ class Load:
         keys = [step for counter in self._counters() for step, count in counter.items() if count]
         return (min(keys), max(keys)) if keys else None
 
-    def check(self):
-        """Rejects a load that has too many steps."""
-        first, last = self.steps() or (0, 0)
-        if last - first >= MOST_STEPS:
-            raise Refused(f"has {last - first + 1} steps of {duration(self.every)}, and a load has at most {MOST_STEPS}: "
-                          "take a longer --every")
-
     def rows(self):
         """A row for each step: its first moment; the attempts that begin, succeed and fail in it; the attempts that
         run and the jobs that wait at its end."""
@@ -86,26 +79,26 @@ class Load:
 
 
 def read(file, every, progress=None):
-    """The load of a report, a binary file."""
+    """The load of a report, a binary file. Too many steps are rejected."""
     load = Load(every)
     for _, record in records(file, progress):
         load.take(record)
+    first, last = load.steps() or (0, 0)
+    if last - first >= MOST_STEPS:
+        raise Refused(f"has {last - first + 1} steps of {duration(every)}, and a load has at most {MOST_STEPS}: "
+                      "take a longer --every")
     return load
 
 
-def write_csv(load, write):
-    """Writes the load as comma-separated values. Moments are milliseconds."""
-    write("from_ms,begun,ok,err,running,waiting\n")
-    for row in load.rows():
-        write(",".join(map(str, row)) + "\n")
+def csv(load):
+    """The load as lines of comma-separated values. Moments are milliseconds."""
+    return ["from_ms,begun,ok,err,running,waiting", *(",".join(map(str, row)) for row in load.rows())]
 
 
-def write_table(load, write):
-    """Writes the load as a table, and the sums of attempts."""
-    rows = list(load.rows())
+def text(load):
+    """The load as the lines of a table, and the sums of attempts."""
+    rows = [[duration(row[0]), *map(str, row[1:])] for row in load.rows()]
     if rows:
-        for line in table([HEAD] + [[duration(row[0]), *map(str, row[1:])] for row in rows], left=0):
-            write(f"{line}\n")
-        write("\n")
+        yield from [*table([HEAD, *rows], left=0), ""]
     begun, ok, err = [sum(counter.values()) for counter in (load.begun, load.ok, load.err)]
-    write(f"{plural(begun, 'attempt')}: {ok} ok, {err} err, {begun - ok - err} running at the horizon\n")
+    yield f"{plural(begun, 'attempt')}: {ok} ok, {err} err, {begun - ok - err} running at the horizon"

@@ -73,8 +73,11 @@ class Layout:
         self.verdict_room = min(WIDEST_VERDICT, verdicts) + 1
         self.right = WIDTH - MARGIN - self.verdict_room - AFTER_PLOT
         self.horizon = next((row.ending.at for row in rows if row.ending.how == "unfinished"), None)
-        unit = log_unit(rows) if view.is_log else None
-        self.scale = Scale(*view_of(rows, self.horizon, view), self.left, self.right, unit)
+        # The unit of a logarithmic axis is the time of the shortest first attempt.
+        firsts = [row.attempts[0] for row in rows if row.attempts and row.attempts[0].end is not None]
+        unit = max(1, min((it.end - it.begin for it in firsts), default=1)) if view.is_log else None
+        moments = shown_moments([row.attempts for row in rows], self.horizon)
+        self.scale = Scale(*(view_within(*moments, view) if rows else moments), self.left, self.right, unit)
         self.labels, self.base = labels(self.scale)
         self.shapes = [Shapes(row.attempts, self.scale).found for row in rows]
         self.waits = [list(waits_of(row, shapes, self.scale)) for row, shapes in zip(rows, self.shapes)]
@@ -87,25 +90,12 @@ class Layout:
         return self.top + (number + 0.5) * self.row
 
 
-def view_of(rows, horizon, view):
-    """The first and the last moment that a picture shows."""
-    first, last = shown_moments([row.attempts for row in rows], horizon)
-    return view_within(first, last, view) if rows else (first, last)
-
-
 def view_within(first, last, view):
     """The moments of a view; `first` and `last` are the defaults."""
     first, last = first if view.first is None else view.first, last if view.last is None else view.last
     if first >= last and view != View(is_log=view.is_log):
         raise Refused(f"has nothing from {first} ms to {last} ms: --from must be before --to")
     return first, last
-
-
-def log_unit(rows):
-    """The unit of a logarithmic axis: the time of the shortest first attempt."""
-    firsts = [row.attempts[0] for row in rows if row.attempts]
-    times = [attempt.end - attempt.begin for attempt in firsts if attempt.end is not None]
-    return max(1, min(times, default=1))
 
 
 def draw_bands(layout, count, right):
@@ -191,15 +181,10 @@ def draw_row(layout, number, row):
         yield from mark(row.ending.how, shapes[-1].right + size + 3, middle, size)
     verdict = cut_text(row.verdict(layout.base), layout.size, layout.verdict_room)
     style = {"failed": "bad", "unfinished": "open"}.get(row.ending.how, "good")
+    full = ending_text(row.ending.how, row.ending.result(), 200)
+    title = f"{row.job.name}: {full} at {row.ending.at} ms, {plural(row.ending.polls, 'poll')}"
     base = middle + layout.size * 0.35
-    yield text(layout.right + AFTER_PLOT, base, verdict, f"{layout.style} {style}", title=verdict_title(row))
-
-
-def verdict_title(row):
-    """The full text of a job's ending, for texts that are cut."""
-    ending = row.ending
-    text = ending_text(ending.how, ending.result(), 200)
-    return f"{row.job.name}: {text} at {ending.at} ms, {plural(ending.polls, 'poll')}"
+    yield text(layout.right + AFTER_PLOT, base, verdict, f"{layout.style} {style}", title=title)
 
 
 def legend(layout, rows):

@@ -184,16 +184,6 @@ def _plan_shape_causes(plan):
     yield jobs and not_of_kind(jobs, "list", '"jobs"', 'write [ {"name": .., ..}, .. ]: each job has its name inside')
 
 
-def plan_keys(plan):
-    """The document has no keys except those of the table."""
-    return unknown_key(plan, "the plan", DOCUMENT_KEYS)
-
-
-def ranges(plan):
-    """The clock, the workers, the grain and the number of jobs are in range."""
-    return first(_range_causes(plan))
-
-
 def _range_causes(plan):
     """The causes of a number out of range, each or None."""
     workers, grain, horizon, ticks = (plan.get(key) for key in ("workers", "grain", "horizon", "ticks"))
@@ -233,7 +223,8 @@ def _at_tick(ticks, parts, number, what, help):
     return Cause(begin + len(part) - len(part.lstrip()), len(part.strip()), what, help)
 
 
-DOCUMENT_FAULTS = {"wrong shape": plan_shape, "unknown key": plan_keys, "out of range": ranges}
+DOCUMENT_FAULTS = {"wrong shape": plan_shape, "out of range": lambda plan: first(_range_causes(plan)),
+                   "unknown key": lambda plan: unknown_key(plan, "the plan", DOCUMENT_KEYS)}
 
 
 MAX_NAME = 64
@@ -303,17 +294,11 @@ def _entry_cause(entry):
     if not ms:
         return missing(entry, "ms", "the entry", ENTRY_KEYS)
     if not ok and not err:
-        return _no_outcome(entry)
+        return first(misnamed(entry, key, "the entry", ENTRY_KEYS) for key in ("ok", "err")) or Cause(
+            entry.at, 1, 'the entry has neither "ok" nor "err"', 'write "ok": 1 for a success, "err": 1 for an error')
     if ok and err:
         return over(entry, 'the entry has "ok" and "err"', "leave one out: an attempt ends in one way")
     return first(value and not_whole(value, key) for key, value in zip(ENTRY_KEYS, (ms, ok, err)))
-
-
-def _no_outcome(entry):
-    """The cause of an entry without an outcome."""
-    found = first(misnamed(entry, key, "the entry", ENTRY_KEYS) for key in ("ok", "err"))
-    return found or Cause(entry.at, 1, 'the entry has neither "ok" nor "err"',
-                          'write "ok": 1 for a success, "err": 1 for an error')
 
 
 def job_keys(_jobs, job):
@@ -352,16 +337,12 @@ def same_name(jobs, job):
     """No earlier job has the name."""
     node, text = job.get("name"), job.document.text
     said = node.string()
-    first_one = next(other.get("name") for other in jobs.items() if _has_name(other, said))
+    # A job whose text has neither the name nor an escape isn't parsed.
+    first_one = next(other.get("name") for other in jobs.items() if (said in (source := other.source) or "\\" in source)
+                     and other.get("name").string() == said)
     line = line_of(text, first_one.at)
     free = next(f"{said[:58]}-{number}" for number in range(2, 10002) if f'"{said[:58]}-{number}"' not in text)
     return over(node, f"the job of line {line} has this name too", f'write another name, as "{free}"')
-
-
-def _has_name(job, name):
-    """Whether a job has this name. A job whose text has neither the name nor an escape isn't parsed."""
-    source = job.source
-    return (name in source or "\\" in source) and job.get("name").string() == name
 
 
 def script_fault(job, cause):

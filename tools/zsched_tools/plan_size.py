@@ -43,7 +43,7 @@ def warn(tool, found, color="auto"):
 def warning(plan, limit=MOST_ATTEMPTS, times=1):
     """The warning for the bytes of a plan that may have more attempts than the limit if it is run so many times, else
     None; also None for a plan that the program rejects."""
-    most = (_found(plan, _most_attempts) or 0) * times
+    most = (_found(plan, lambda tree: sum(_attempts(job, _clock(tree)) for job in tree["jobs"])) or 0) * times
     if most <= limit:
         return None
     return f"its attempts may be {most:.1e}, more than {limit}: the run may be long, and its report large"
@@ -66,10 +66,9 @@ def _found(plan, search):
         return None
 
 
-def _most_attempts(tree):
-    """The attempts of all jobs together, at most."""
-    clock = tree["ticks"] if "ticks" in tree else [tree["horizon"]]
-    return sum(_attempts(job, clock) for job in tree["jobs"])
+def _clock(tree):
+    """The ticks of a document, or its horizon alone."""
+    return [tree["horizon"]] if "horizon" in tree else tree["ticks"]
 
 
 def _lacking_grain(tree):
@@ -99,7 +98,7 @@ def _is_clock(tree):
     """Whether a document has a clock in its range."""
     if ("horizon" in tree) == ("ticks" in tree):
         return False
-    ticks = [tree["horizon"]] if "horizon" in tree else tree["ticks"]
+    ticks = _clock(tree)
     return (isinstance(ticks, list) and 1 <= len(ticks) <= _MOST_TICKS and all(type(tick) is int for tick in ticks)
             and all(tick < later for tick, later in itertools.pairwise(ticks)) and ticks[-1] <= program.LAST_MOMENT)
 
@@ -122,14 +121,10 @@ def _attempts(job, clock):
     script, time = job["script"], max(0, clock[-1] - job.get("start", 0))
     ends = next((number for number, entry in enumerate(script, 1) if goes_on not in entry), math.inf)
     least = max(_LEAST_MS, min(entry["ms"] for entry in script))
-    bound = _bound(job["schedule"], World(time, least, [entry.get(goes_on, 0) for entry in script]))
+    world = World(time, least, [entry.get(goes_on, 0) for entry in script])
+    bound = schedule_rules.folded(job["schedule"], lambda piece: _leaf(piece, world), _joined,
+                                  lambda piece, part: _behind(piece, part, world))
     return min(ends, bound.count, 1 + time // (least + bound.wait), math.inf if len(clock) == 1 else len(clock))
-
-
-def _bound(text, world):
-    """The bound of a schedule in a World."""
-    return schedule_rules.folded(
-        text, lambda piece: _leaf(piece, world), _joined, lambda piece, part: _behind(piece, part, world))
 
 
 def _leaf(piece, world):

@@ -1,5 +1,4 @@
-"""The values of a text that is JSON, with their places. A list or object is read only when its parts are needed; else
-only its brackets are matched.
+"""The values of a text that is JSON, with their places. Python's decoder finds the end of each.
 
 Runs in regular expressions don't backtrack here. Python before 3.11.5 doesn't undo what the last round of (?:PART)*+
 consumed if that round failed; the same for ?+. With an atomic group (?>PART) it does."""
@@ -21,25 +20,19 @@ def maybe(part):
 
 
 W = r"[ \t\n\r]*+"
-_STRING = r'"[^"\\]*+' + run_of(r'\\.[^"\\]*+') + '"'
-
 SPACE = re.compile(W)
-_TEXT = re.compile(_STRING)
-_WORD = re.compile(r"[^ \t\n\r,\]}]++")
 COLON = re.compile(f"{W}:{W}")
-_TO_BRACKET = re.compile(run_of(rf'[^\[\]{{}}"]++|{_STRING}'))
-_KEPT_DEPTH = 4
+_DECODER = json.JSONDecoder(parse_int=len, parse_float=len)
 _DIGITS = re.compile(r"0|[1-9][0-9]{0,19}")
 _PIECE = re.compile(r"(?P<plain>[^\\]+)|(?P<pair>\\u[dD][89abAB][0-9a-fA-F]{2}\\u[0-9a-fA-F]{4})|\\u[0-9a-fA-F]{4}|\\.")
 _KINDS = {"{": "object", "[": "list", '"': "text", "t": "true", "f": "false", "n": "null"}
 
 
 class Document:
-    """A text that is JSON. The ends of its lists and objects are cached."""
+    """A text that is JSON."""
 
     def __init__(self, text):
         self.text = text
-        self.ends = {}
 
     def root(self):
         """The value of the whole text."""
@@ -51,37 +44,7 @@ class Document:
 
     def end_of(self, at):
         """The end of the value that begins here."""
-        mark = self.text[at]
-        if mark == '"':
-            quote = self.text.find('"', at + 1)
-            return quote + 1 if self.text[quote - 1] != "\\" else _TEXT.match(self.text, at).end()
-        if mark not in "{[":
-            return _WORD.match(self.text, at).end()
-        if at not in self.ends:
-            self._look_for_end(at)
-        return self.ends[at]
-
-    def _look_for_end(self, at):
-        """Stores the end of the list or object that begins here, and the ends of those in it, down to a fixed depth."""
-        text, here, begins = self.text, at, []
-        while begins or here == at:
-            here = _TO_BRACKET.match(text, here).end()
-            begin = here if text[here] in "{[" else begins.pop()
-            here = self._end_of_shallow(here) if begin == here else here + 1
-            if not here:
-                begins.append(begin)
-                here = begin + 1
-            elif len(begins) < _KEPT_DEPTH:
-                self.ends[begin] = here
-
-    def _end_of_shallow(self, at):
-        """The end of a list without lists in it, if its brackets and quotes are enough to find it, else None."""
-        text = self.text
-        if text[at] != "[":
-            return None
-        end = text.find("]", at)
-        is_plain = text.find("[", at + 1, end) < 0 and text.find("\\", at, end) < 0
-        return end + 1 if is_plain and text.count('"', at, end) % 2 == 0 else None
+        return _DECODER.raw_decode(self.text, at)[1]
 
     def behind_key(self, at):
         """The place of the value whose key begins here."""

@@ -44,11 +44,8 @@ def find_beside(name, named=None):
             return str(place)
     crate = name.replace("-", "_")
     built = CRATES / crate / "out" / crate
-    return str(built) if os.access(built, os.X_OK) else _installed(name)
-
-
-def _installed(name):
-    """The path of a program that was installed with these tools, else that of one on PATH, or None."""
+    if os.access(built, os.X_OK):
+        return str(built)
     return INSTALLED and shutil.which(name, path=INSTALLED) or shutil.which(name)
 
 

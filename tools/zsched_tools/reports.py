@@ -110,8 +110,8 @@ class Reader:
         """Takes the next line without its newline. Returns the record that is whole with it: an attempt, if no step
         is due after it, or with its step; an ending; the total; else None."""
         self.line += 1
-        form, taker = _FORMS.get(text[:1], _NO_FORM)
-        match = form.fullmatch(text)
+        form, taker = _FORMS.get(text[:1], (None, None))
+        match = form and form.fullmatch(text)
         if self.total is not None:
             self._refuse("is after the last line", text)
         if match is None:
@@ -251,9 +251,6 @@ _FORMS = {
 }
 
 
-_NO_FORM = (re.compile("(?!)"), None)
-
-
 def text_lines(source, longest=LONGEST_LINE):
     """The lines of an open text file, without their newlines. A line without one is rejected."""
     number = 0
@@ -266,23 +263,6 @@ def text_lines(source, longest=LONGEST_LINE):
         yield line[:-1]
 
 
-class _Counted(io.RawIOBase):
-    """A binary file whose bytes a Progress counts when they are read."""
-
-    def __init__(self, file, progress):
-        self.file, self.progress = file, progress
-
-    def readable(self):
-        """It can be read."""
-        return True
-
-    def readinto(self, room):
-        """Reads bytes. Returns how many."""
-        count = self.file.readinto(room)
-        self.progress.add(count)
-        return count
-
-
 def as_text(binary):
     """A binary file as text of single bytes, whose lines end only at byte 10."""
     return io.TextIOWrapper(binary, encoding="latin-1", newline="\n")
@@ -293,7 +273,9 @@ def records(file, progress=None, reader=None):
     without a job. The records before a fault are yielded before the fault is raised."""
     reader = reader or Reader()
     try:
-        for text in text_lines(as_text(file if progress is None else io.BufferedReader(_Counted(file, progress)))):
+        for text in text_lines(as_text(file)):
+            if progress is not None:
+                progress.add(len(text) + 1)
             job = reader.job
             record = reader.take(text)
             if record is not None:

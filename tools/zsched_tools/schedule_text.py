@@ -257,13 +257,6 @@ def _no_method(spot):
     return _misspelled(spot, METHODS) or spot.cause(None, "method_missing", "are_methods")
 
 
-def _no_open(spot):
-    """No parenthesis follows a word that needs one."""
-    word = spot.last()
-    example = TABLE["examples"].get(word, f"{word}(< 5)" if word in METHODS else f"{word}(3)")
-    return spot.cause(None, "needs", "write", text=example)
-
-
 def _no_number(spot):
     """A number is expected, but it is missing."""
     zeros = re.match(r"0[0-9]+", spot.rest)
@@ -285,13 +278,6 @@ def _no_test(spot, expected):
     return spot.cause(None, f"test_{expected}", "are_comparisons")
 
 
-def _no_function(spot):
-    """A function is expected, but it is missing."""
-    if spot.token().isdigit():
-        return spot.cause(None, "number_function", "as_number")
-    return _misspelled(spot, ["size", "merge"]) or spot.cause(None, "takes_function", "write_functions")
-
-
 def _no_close(spot):
     """The arguments don't end."""
     token, word = spot.token(), spot.last(3)
@@ -311,11 +297,14 @@ _EXPECTED = {
     "schedule": _no_schedule,
     "more": _no_more,
     "method": _no_method,
-    "open": _no_open,
+    "open": lambda spot: spot.cause(None, "needs", "write", text=TABLE["examples"].get(
+        spot.last(), f"{spot.last()}({'< 5' if spot.last() in METHODS else '3'})")),
     "number": _no_number,
     "comparison": lambda spot: _no_test(spot, "comparison"),
     "pick": lambda spot: _no_test(spot, "pick"),
-    "function": _no_function,
+    "function": lambda spot: (spot.cause(None, "number_function", "as_number") if spot.token().isdigit() else
+                              _misspelled(spot, ["size", "merge"]) or
+                              spot.cause(None, "takes_function", "write_functions")),
     "second": _no_close,
     "close": _no_close,
 }

@@ -20,14 +20,9 @@ MOST_BARS = 200
 LEFT = 24
 
 
-def step_of(first, last):
-    """A step of time, of which at most MOST_BARS are between a first and a last moment."""
-    return step_between_labels(max(1, last - first), NEAREST_LABELS * MOST_BARS)
-
-
 def load_of_rows(rows, scale):
     """The load of a picture's rows, in at most MOST_BARS steps."""
-    found = Load(step_of(scale.first, scale.last))
+    found = Load(step_between_labels(max(1, scale.last - scale.first), NEAREST_LABELS * MOST_BARS))
     for row in rows:
         for record in [*row.attempts, row.ending]:
             found.take(record)

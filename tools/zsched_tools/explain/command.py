@@ -4,7 +4,6 @@ While the program runs, a thread scans the plan, which takes longest. The module
 import argparse
 import subprocess
 import sys
-import tempfile
 import threading
 
 from zsched_tools import command, place, plan_size, program, starting
@@ -89,9 +88,9 @@ def _tell_all(name, zsched, data, most, paint):
     return 2
 
 
-def outcome(zsched, data):
-    """The status and the line of the program on a plan's bytes."""
-    status, _, errors = program.report_of(zsched, data, None)
+def outcome(zsched, data, seconds=None):
+    """The status and the line of the program on a plan's bytes. After `seconds` subprocess.TimeoutExpired is raised."""
+    status, _, errors = program.report_of(zsched, data, None, seconds)
     return status, errors.decode(errors="replace")
 
 
@@ -118,56 +117,29 @@ class Look(threading.Thread):
         self.plan = faults.Plan(self.data)
         self.plan.look()
 
-    def explanation(self, name, line, paint):
-        """The lines that show the place of the fault in this line of the program. Waits for the scan."""
-        from zsched_tools import faults
-        self.join()
-        return place.fault_lines(name, faults.explained(self.plan, line.strip().removeprefix("zsched: ")), paint)
-
 
 def refusal(zsched, look, seconds=None, data=None):
     """Runs the program on a plan's bytes, or on `data` with the same faults, and starts the scan. Returns the status and
-    the line on standard error. After `seconds` the program is killed, and subprocess.TimeoutExpired
-    is raised. After PATIENCE it is killed if a plan with one of each group of alike jobs has the fault."""
+    the line on standard error. After `seconds` subprocess.TimeoutExpired is raised. If it takes longer than PATIENCE,
+    a plan with one of each group of alike jobs runs first."""
     data = look.data if data is None else data
-    with tempfile.TemporaryFile() as plan, tempfile.TemporaryFile() as report:
-        plan.write(data)
-        plan.seek(0)
-        with program.starting(zsched):
-            process = subprocess.Popen([zsched], stdin=plan, stdout=report, stderr=subprocess.PIPE)
-        status, errors = _ended(zsched, look, process, seconds, data)
-        if status == 0:
-            report.seek(max(0, report.seek(0, 2) - 40))
-            program.check_report(zsched, report.read())
-    return status, errors
-
-
-def _ended(zsched, look, process, seconds, data):
-    """The status and the line of a process that runs a plan, as `refusal` returns them."""
-    with process:
-        try:
-            look.start()
-            try:
-                errors = process.communicate(timeout=seconds or PATIENCE)[1]
-            except subprocess.TimeoutExpired:
-                if seconds:
-                    raise
-                sooner = fault_of_fewer(zsched, data)
-                if sooner:
-                    process.kill()
-                    return sooner
-                errors = process.communicate()[1]
-        except BaseException:
-            process.kill()
+    look.start()
+    try:
+        return outcome(zsched, data, seconds or PATIENCE)
+    except subprocess.TimeoutExpired:
+        if seconds:
             raise
-    return process.returncode, errors.decode(errors="replace")
+        return fault_of_fewer(zsched, data) or outcome(zsched, data)
 
 
 def tell(name, look, status, line, paint=lambda _, text: text):
     """Writes the explanation of the program's status and line. Returns the status."""
     if status == command.REFUSED:
+        from zsched_tools import faults
+        look.join()
+        found = faults.explained(look.plan, line.strip().removeprefix("zsched: "))
         said = f"{paint('bad', line.rstrip())}\n" if line.strip() else line
-        sys.stderr.write(said + look.explanation(name, line, paint))
+        sys.stderr.write(said + place.fault_lines(name, found, paint))
     elif status:
         raise ChildProcessError(program.failure(status, line.encode()))
     else:

@@ -1,12 +1,11 @@
 """The command zsched-outage: simulates many clients in an outage, and the program confirms each run."""
 import argparse
 import pathlib
-import random
 import sys
 
 from zsched_tools import command, plan_size, program, starting, words
 from zsched_tools.command import REFUSED, Paint, Refused
-from zsched_tools.drawn import LOW
+from zsched_tools.drawn import HIGH, LOW
 from zsched_tools.durations import duration_argument
 from zsched_tools.outage.certificate import Uncertified, certified
 from zsched_tools.outage.curve import Figures, headline, policy_lines, table, to_json
@@ -17,7 +16,6 @@ from zsched_tools.place import FaultAt, in_file, place_lines
 from zsched_tools.plan.split import write_parts
 from zsched_tools.program import MOST_JOBS, cut_plans
 from zsched_tools.progress import Now
-from zsched_tools.schedule_rules import any_cause
 from zsched_tools.words import duration, plural
 
 TOOL = "zsched-outage"
@@ -90,24 +88,16 @@ report isn't the simulated run (with the job, the policy and both endings); 2 if
 with file, line and column on standard error, or if there is no program; 3 if reading, writing or the program fails."""
 
 
-def _drawn_by(scenario, name):
-    """A source of random numbers as that of the first client of a policy."""
-    return random.Random(f"{scenario.seed} {name}")
-
-
 def _check_policies(scenario, zsched):
-    """Runs the program to check the first client's schedule of each policy. FaultAt has the place in the scenario."""
-    for name, (policy, node) in scenario.policies.items():
+    """Runs the program to check the schedule of each policy. FaultAt has the place in the scenario."""
+    for policy, node in scenario.policies.values():
         policy.zsched = zsched
         try:
-            schedule = policy.schedule(_drawn_by(scenario, name))
+            policy.schedule(HIGH)
+            policy.show(TOOL, True)
+            policy.check(zsched)
         except FaultAt as fault:
             raise FaultAt(in_text(node, fault.cause)) from None
-        policy.show(TOOL, True)
-        status, _, line = program.report_of(zsched, program.one_job(0, schedule, scenario.outcomes[DOWN].entry()), 1)
-        if status == 2:
-            fault = line.decode(errors="replace").strip().removeprefix("zsched: job 0: schedule: ")
-            raise FaultAt(in_text(node, policy.cause_at(_drawn_by(scenario, name), any_cause(schedule, fault))))
 
 
 def _settled(scenario, zsched, name, most_passes, say):

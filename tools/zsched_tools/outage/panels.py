@@ -64,11 +64,6 @@ end. The run of each policy is the report of a plan, which the program confirmed
 """
 
 
-def _style_of(window):
-    """The style in which a window is shaded."""
-    return "down" if window.state == DOWN else "full" if window.capacity is not None else "slow"
-
-
 class Layout:
     """The places of everything: panels from top to bottom, seconds from left to right."""
 
@@ -120,7 +115,8 @@ def _windows(layout, top):
         if window.begin < layout.scale.last:
             words = f"{state_words(window)} from {window.begin} ms" + (
                 f" to {window.end} ms" if window.end <= layout.scenario.horizon else "")
-            yield rectangle(left, top - WORDS, right, top + PANEL, _style_of(window), words)
+            style = "down" if window.state == DOWN else "full" if window.capacity is not None else "slow"
+            yield rectangle(left, top - WORDS, right, top + PANEL, style, words)
 
 
 def _window_names(layout, top):
@@ -167,18 +163,14 @@ def _line(layout, top, rows, load):
     return "".join(steps)
 
 
-def _served(figures):
-    """The number of clients that are served, and the moment of the last success."""
-    served, count = len(figures.times), figures.clients
-    words = "all served" if served == count else f"{served:,} of {count:,} served"
-    return f"{words}, the last at {duration(figures.last_success)}" if served else words
-
-
 def _panel(layout, number, name):
     """A policy's panel: the shaded windows, what ended in each second, and the lines of what began and what runs."""
     top, rows, figures = layout.panel(number), layout.columns[name], layout.figures[name]
     (short, _), (height, _) = [peak or (0, 0) for peak in figures.peaks[:2]]
-    verdict = [f"{figures.attempts:,} attempts", f"peak {height:,} a second, {short:,} in 100 ms", _served(figures)]
+    served, count = len(figures.times), figures.clients
+    words = "all served" if served == count else f"{served:,} of {count:,} served"
+    words += f", the last at {duration(figures.last_success)}" if served else ""
+    verdict = [f"{figures.attempts:,} attempts", f"peak {height:,} a second, {short:,} in 100 ms", words]
     room = layout.width - MARGIN - layout.left
     called, policy = cut_text(name, LETTERS, room / 3), shown(figures.text, 10 * WIDTH)
     yield text(layout.left, top - WORDS - 23, called, "name", title=name)

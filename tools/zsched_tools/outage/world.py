@@ -91,12 +91,6 @@ class Bucket:
         return True
 
 
-def _first_alike(outcomes):
-    """A table from each kind to the first one with the same outcome."""
-    return bytes(outcomes.index(outcomes[kind]) if kind < len(outcomes) else kind
-                 for kind in (number & ~DENIED for number in range(256)))
-
-
 class Walk:
     """All attempts of all clients, in the order of their moments. At one moment ends are before begins, and clients
     are in the order of their numbers. `found` has the kinds of each client's attempts, `endings` its ending (None if its
@@ -106,7 +100,9 @@ class Walk:
         self.scenario, self.runs = scenario, runs
         self.service = Service(scenario.windows)
         self.bucket = Bucket(scenario.budget) if scenario.budget else None
-        self.outcomes = _first_alike(scenario.outcomes)
+        # A table from each kind to the first one with the same outcome.
+        known = scenario.outcomes
+        self.outcomes = bytes(known.index(known[it]) if it < len(known) else it for it in UNDENIED)
         self.found = [bytearray() for _ in runs]
         self.endings = [None] * len(runs)
         self._walk()

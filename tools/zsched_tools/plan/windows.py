@@ -126,7 +126,9 @@ def scripts(service, requests, schedule, mode, horizon, zsched):
     guess, cut = (service.down, Outcome(1, True, 0)) if mode == "retry" else (service.up, Outcome(1, False, 0))
     found, too_long, are_open = [[] for _ in requests], [], list(range(len(requests)))
     while are_open:
-        tried = [_guessed(found[at], requests[at].own, guess) for at in are_open]
+        # What is known, then the request's own attempts, then others.
+        tried = [[*found[at], *(it for _, it in requests[at].own[len(found[at]):] if it.is_ok == guess.is_ok),
+                  *[guess] * LOOK][:MOST_ENTRIES - 1] for at in are_open]
         jobs = [requests[at].job(schedule, mode, [*script, cut]) for at, script in zip(are_open, tried)]
         blocks = (block for plan in cut_plans(horizon, jobs)[0] for block in blocks_of(run_plan(zsched, plan)))
         still = []
@@ -136,12 +138,6 @@ def scripts(service, requests, schedule, mode, horizon, zsched):
                 (too_long if len(found[at]) == MOST_ENTRIES else still).append(at)
         are_open = still
     return [script or [service.at(request.start)] for script, request in zip(found, requests)], too_long
-
-
-def _guessed(known, own, guess):
-    """A script that may be the whole: what is known, then the request's own attempts, then others."""
-    rest = [outcome for _, outcome in own[len(known):] if outcome.is_ok == guess.is_ok]
-    return [*known, *rest, *[guess] * LOOK][:MOST_ENTRIES - 1]
 
 
 def _extended(known, request, service, script, begins, mode):

@@ -258,9 +258,7 @@ def arguments():
     words.add_argument("--port", type=port, default=PORT, help=f"the port ({PORT}); 0 picks a free one")
     words.add_argument("--zsched", metavar="PATH", help="the program (ZSCHED, or the one that is built or on PATH)")
     words.add_argument("--bounds", metavar="PATH", help="zsched-bounds (ZSCHED_BOUNDS, or the one that is built or on PATH)")
-    command.add_version(words)
-    command.add_color(words)
-    return words
+    return command.complete(words)
 
 
 main = starting.command("zsched-play", arguments, serve)

@@ -5,6 +5,7 @@ from fractions import Fraction
 from typing import Callable, NamedTuple
 
 from zsched_tools.durations import UNITS, exact_milliseconds
+from zsched_tools.hints import TABLE
 from zsched_tools.policy.reading import Wrong
 from zsched_tools.words import shown
 
@@ -32,6 +33,13 @@ class Found(NamedTuple):
     name: str
     line: int
     read: Callable[[], Policy]
+
+
+def default(job, setting, read=int):
+    """A default of another program, in milliseconds if it is a time: from the table that docs/POLICIES.md has too."""
+    text = next(text for name, text, _ in TABLE["policies"][job] if name.strip("`") == setting)
+    exact = exact_milliseconds(text)
+    return read(exact if exact is not None else Fraction(re.match("[0-9.]+", text)[0]))
 
 
 def plain(name):

@@ -18,8 +18,8 @@ import itertools
 import math
 from fractions import Fraction
 
-from zsched_tools.policy.fields import (DAY, Fields, Found, Policy, duration, keys_of, number, part, plain, texts,
-                                        truth, whole)
+from zsched_tools.policy.fields import (DAY, Fields, Found, Policy, default, duration, keys_of, number, part, plain,
+                                        texts, truth, whole)
 from zsched_tools.policy.reading import Node, Wrong, unfolded
 from zsched_tools.policy.services import label, tables
 from zsched_tools.policy.spelling import GREATEST, Waits, constant, exponential, growing, linear
@@ -63,8 +63,9 @@ def _resilience(node, configs):
         base = part(tables_[-1], "baseconfig")
     fields = Fields(*tables_)
     fields.take("baseconfig")
-    retries = fields.get(whole, "maxattempts", "maxretryattempts", default=3, least=1) - 1
-    first, factor, most, jitter, share = fields.get(duration, "waitduration", default=500, unit=1), 1, None, None, 0
+    attempts, first = (default("resilience4j", it) for it in ["maxAttempts", "waitDuration"])
+    retries = fields.get(whole, "maxattempts", "maxretryattempts", default=attempts, least=1) - 1
+    first, factor, most, jitter, share = fields.get(duration, "waitduration", default=first, unit=1), 1, None, None, 0
     if fields.get(truth, "enableexponentialbackoff"):
         factor = float(fields.get(number, "exponentialbackoffmultiplier", default=1.5))
         most = fields.get(duration, "exponentialmaxwaitduration", unit=1)
@@ -109,7 +110,7 @@ def _spring(node, names):
     fields = Fields(node, *([inner] if inner is not None else []))
     fields.take("backoff" if inner is not None and inner.is_table() else "")
     known = next((SPRING[key] for key in SPRING if names.startswith(key)), None)
-    attempts, first, factor, most = known or (3, 1000, 0, 0)
+    attempts, first, factor, most = known or (*(default("spring-retry", it) for it in ["maxAttempts", "delay"]), 0, 0)
     retries = fields.get(whole, "maxretries")
     if retries is None:
         retries = fields.get(whole, "maxattempts", "attempts", default=attempts, least=1) - 1
@@ -138,8 +139,10 @@ def _polly(node, around):
     fields = Fields(node)
     fields.take("name")
     is_http = bool(keys_of(around) & {"attempttimeout", "totalrequesttimeout", "circuitbreaker"})
-    retries = fields.get(whole, "maxretryattempts", default=3)
-    first, most = fields.get(duration, "delay", default=2000, unit=DAY), fields.get(duration, "maxdelay", unit=DAY)
+    job = "dotnet-http" if is_http else "polly"
+    retries = fields.get(whole, "maxretryattempts", default=default(job, "MaxRetryAttempts"))
+    first, most = fields.get(duration, "delay", default=default(job, "Delay"), unit=DAY), fields.get(
+        duration, "maxdelay", unit=DAY)
     kind, kinds = fields.take("backofftype"), ["constant", "linear", "exponential"]
     word = kinds[2 * is_http] if kind is None else str(kind.data).lower()
     word = kinds[int(word)] if word in ("0", "1", "2") else word

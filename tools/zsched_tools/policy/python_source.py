@@ -13,7 +13,7 @@ import itertools
 import math
 from fractions import Fraction
 
-from zsched_tools.policy.fields import Found, Policy
+from zsched_tools.policy.fields import Found, Policy, default
 from zsched_tools.policy.reading import Wrong
 from zsched_tools.policy.spelling import constant, exponential, fibonacci, linear, listed, nearest, one_by_one, together
 
@@ -218,7 +218,7 @@ class _Tenacity:
     def known(self, name, get):
         """The waits of one of tenacity's own strategies. `get` returns an argument, or its default."""
         most = get("max", None) and get("max", None) * 1000
-        least, factor = max(0, get("min", 0) * 1000), get("exp_base", 2)
+        least, factor = max(0, get("min", 0) * 1000), get("exp_base", default("tenacity-exponential", "exp_base"))
         if name in ("wait_none", "wait_fixed"):
             return constant(get("wait", 0) * 1000)
         if name == "wait_random":
@@ -234,7 +234,8 @@ class _Tenacity:
             return inner if more == 0 else together([inner, constant(more)])
         if name != "wait_exponential":
             self.jitters.append({"kind": "full"} if not least else {"kind": "full", "from_ms": nearest(least)})
-        return exponential(get("multiplier", 1) * 1000, factor, most, least)
+        first = get("multiplier", None)
+        return exponential(default("tenacity-exponential", "multiplier") if first is None else first * 1000, factor, most, least)
 
 
 def _backoff(source, node):
@@ -257,8 +258,9 @@ def _backoff(source, node):
     elif kind == "constant":
         waits = constant(source.option(given.pop("interval", None), 1) * 1000)
     elif kind == "expo":
-        first, factor = source.option(given.pop("factor", None), 1), source.option(given.pop("base", None), 2)
-        waits = exponential(first * 1000, factor, most)
+        first, factor = (source.option(given.pop(it, None), default("backoff-expo", it), times)
+                         for it, times in [("factor", 1000), ("base", 1)])
+        waits = exponential(first, factor, most)
     elif kind == "fibo":
         waits = fibonacci(most)
     else:

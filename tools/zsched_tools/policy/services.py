@@ -14,9 +14,10 @@ What each one waits, by its documents unless it says otherwise:
   legacy: drawn from 0 to 2^(n-1) s, 5 attempts. Without retry_mode botocore's mode is legacy."""
 import functools
 import itertools
+from fractions import Fraction
 
 from zsched_tools.hints import TABLE
-from zsched_tools.policy.fields import (Fields, Found, Policy, duration, keys_of, named, number, part, plain, text_of,
+from zsched_tools.policy.fields import (Fields, Found, Policy, default, duration, keys_of, named, number, part, plain, text_of,
                                         texts, whole)
 from zsched_tools.policy.reading import Node, Wrong
 from zsched_tools.policy.spelling import exponential, growing
@@ -128,7 +129,7 @@ def envoy_waits(base, most):
 
 def _envoy(policy, route):
     fields = Fields(policy)
-    back_off = Fields(fields.take("retrybackoff") or Node({"base_interval": Node("25ms", 1)}, 1))
+    back_off = Fields(fields.take("retrybackoff") or Node({"base_interval": Node(f"{default('envoy', 'base_interval')}ms", 1)}, 1))
     base, most = back_off.get(duration, "baseinterval"), back_off.get(duration, "maxinterval")
     if base is None:
         raise Wrong(back_off.line, "retry_back_off has no base_interval")
@@ -138,13 +139,14 @@ def _envoy(policy, route):
     left_out = [*fields.left_out(), *(f"retry_back_off.{name}" for name in back_off.left_out())]
     others = ("timeout", "idletimeout", "hedgepolicy", "maxstreamduration")
     left_out += [name for name in route.data if plain(name) in others]
-    count = 1 if retries is None else whole(retries)
+    count = default("envoy", "num_retries") if retries is None else whole(retries)
     return Policy(envoy_waits(base, most), count, left_out, timeout or None, on, FULL)
 
 
 def _istio(retries, route):
     fields = Fields(retries)
-    count, base = fields.get(whole, "attempts", default=2), fields.get(duration, "backoff", default=25)
+    count, base = (fields.get(read, name, default=default("istio", name))
+                   for read, name in [(whole, "attempts"), (duration, "backoff")])
     timeout, on = fields.get(duration, "pertrytimeout"), fields.get(texts, "retryon", default=[])
     left_out = fields.left_out() + (["timeout"] if part(route, "timeout") else [])
     return Policy(envoy_waits(base, None), count, left_out, timeout or None, on, FULL)
@@ -152,9 +154,11 @@ def _istio(retries, route):
 
 def _temporal(policy, around):
     fields, beside = Fields(policy), Fields(around)
-    first = fields.get(duration, "initialinterval") or 1000
-    factor = fields.get(number, "backoffcoefficient") or 2
-    most = fields.get(duration, "maximuminterval") or first * 100
+    first, factor, times = (default("temporal-activity", it, Fraction)
+                            for it in ["Initial Interval", "Backoff Coefficient", "Maximum Interval"])
+    first = fields.get(duration, "initialinterval") or first
+    factor = fields.get(number, "backoffcoefficient") or factor
+    most = fields.get(duration, "maximuminterval") or first * times
     if factor < 1 or most < first:
         raise Wrong(policy.line, "backoffCoefficient must be at least 1" if factor < 1
                     else "maximumInterval must be at least initialInterval")
@@ -170,12 +174,13 @@ def _job(node):
     if spec is None:
         raise Wrong(node.line, "the CronJob has no jobTemplate with a spec")
     fields = Fields(spec)
-    retries = fields.get(whole, "backofflimit", default=6)
+    retries, first, most = (default("kubernetes-job", it) for it in ["backoffLimit", "DefaultJobBackOff", "MaxJobBackOff"])
+    retries = fields.get(whole, "backofflimit", default=retries)
     pod = part(part(fields.take("template"), "spec"), "restartpolicy")
     left_out = [name for name in fields.left_out() if plain(name) not in (
         "selector", "manualselector", "ttlsecondsafterfinished", "managedby")]
     left_out += ["restartPolicy: OnFailure restarts a container in its pod"] if text_of(pod) == "OnFailure" else []
-    return Policy(exponential(10_000, 2, 360_000), retries, left_out)
+    return Policy(exponential(first, 2, most), retries, left_out)
 
 
 def find_aws(root):
@@ -195,8 +200,9 @@ def _aws(node):
     left_out = left_out.get(mode)
     if left_out is None:
         raise Wrong(asked.line, f"{named(asked)} is not legacy, standard or adaptive")
-    attempts = fields.get(whole, "maxattempts", "awsmaxattempts", default=5 if mode == "legacy" else 3, least=1)
+    usual, most = (default("aws-standard", it) for it in ["DEFAULT_MAX_ATTEMPTS", "max_backoff"])
+    attempts = fields.get(whole, "maxattempts", "awsmaxattempts", default=5 if mode == "legacy" else usual, least=1)
     unset = ["retry_mode: not set, which is legacy in botocore and standard in newer SDKs"] if asked is None else []
     unset += [name for name in fields.left_out() if "retr" in name.lower()]
-    waits = exponential(1000, 2, None if mode == "legacy" else 20_000)
+    waits = exponential(1000, 2, None if mode == "legacy" else most)
     return Policy(waits, attempts - 1, unset + left_out, jitter=FULL)

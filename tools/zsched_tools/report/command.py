@@ -90,31 +90,11 @@ def _lines(given):
     _with_source(given, work)
 
 
-def _from_lines(given):
-    _with_source(given, lambda file, _: write_report(as_text(file), _write))
-
-
-def _summary(given):
-    options = Options(given.sort, given.one_line, given.within)
-    _with_source(given, lambda file, progress: write_summary(file, _write, options, progress))
-
-
 def _load(given):
-    found = _with_source(given, lambda file, progress: _load_in(file, given.every, progress))
-    if given.csv:
-        load.write_csv(found, _write)
-    elif given.svg:
-        for line in draw_strip(found, given.title):
-            _write(f"{line}\n")
-    else:
-        load.write_table(found, _write)
-
-
-def _load_in(file, every, progress):
-    """The load of a report. Too many steps are rejected."""
-    found = load.read(file, every, progress)
-    found.check()
-    return found
+    found = _with_source(given, lambda file, progress: load.read(file, given.every, progress))
+    form = load.csv if given.csv else load.text if not given.svg else lambda it: draw_strip(it, given.title)
+    for line in form(found):
+        _write(f"{line}\n")
 
 
 # The orders of a picture's rows.
@@ -130,20 +110,14 @@ def _crowd(given):
     return crowd
 
 
-def _view(given):
-    """The part of time that is drawn."""
-    return View(given.first, given.last, given.log)
-
-
-def _svg(given):
-    for line in draw_crowd(_crowd(given), given.title, _view(given)):
-        _write(f"{line}\n")
-
-
-def _html(given):
-    crowd, view = _crowd(given), _view(given)
-    pieces = (page(crowd.rows, given.title, view) if crowd.jobs <= MOST_JOBS
-              else load_page(crowd.load, given.title, note_of(crowd), view))
+def _draw(given, is_page):
+    crowd, view = _crowd(given), View(given.first, given.last, given.log)
+    if not is_page:
+        pieces = (f"{line}\n" for line in draw_crowd(crowd, given.title, view))
+    elif crowd.jobs <= MOST_JOBS:
+        pieces = page(crowd.rows, given.title, view)
+    else:
+        pieces = load_page(crowd.load, given.title, note_of(crowd), view)
     for piece in pieces:
         _write(piece)
 
@@ -182,15 +156,19 @@ def _add_load(one):
     form.add_argument("--svg", action="store_true", help="a picture")
 
 
-_ADDED = {"summary": _add_summary, "load": _add_load}
-
-
-def _add_view(one):
-    """Adds the arguments of a picture's axis."""
+def _add_picture(one):
+    """Adds the arguments of a picture."""
+    one.add_argument("--title", default="", help="the text above the picture")
+    one.add_argument("--job", metavar="NAME", action="append", default=[], help="draw this job; may be repeated")
+    one.add_argument("--sort", choices=list(_ROW_ORDERS), help="the order of the rows: by the moment of the end, by name, "
+                     "or the most attempts first; else that of the report")
     one.add_argument("--from", dest="first", metavar="TIME", type=duration_argument,
                      help="the first moment drawn, as 1.5s")
     one.add_argument("--to", dest="last", metavar="TIME", type=duration_argument, help="the last moment drawn, as 2min")
     one.add_argument("--log", action="store_true", help="a logarithmic axis, if some times are much longer than others")
+
+
+_ADDED = {"summary": _add_summary, "load": _add_load, "svg": _add_picture, "html": _add_picture}
 
 
 def _arguments():
@@ -198,21 +176,17 @@ def _arguments():
     parser, forms = command.forms(TOOL, DESCRIPTION, EPILOG, "FORM")
     for name, work, about, short in [
             ("lines", _lines, LINES, "JSON lines"),
-            ("from-lines", _from_lines, FROM_LINES, "the report again, from JSON lines"),
-            ("summary", _summary, SUMMARY, "a table with a line a job"),
+            ("from-lines", lambda given: _with_source(given, lambda file, _: write_report(as_text(file), _write)),
+             FROM_LINES, "the report again, from JSON lines"),
+            ("summary", lambda given: _with_source(given, lambda file, progress: write_summary(
+                file, _write, Options(given.sort, given.one_line, given.within), progress)),
+             SUMMARY, "a table with a line a job"),
             ("load", _load, LOAD, "a table with a line for each step of time"),
-            ("svg", _svg, SVG, "a picture"),
-            ("html", _html, HTML, "a page with the picture, that zooms")]:
+            ("svg", lambda given: _draw(given, False), SVG, "a picture"),
+            ("html", lambda given: _draw(given, True), HTML, "a page with the picture, that zooms")]:
         one = forms.add_parser(name, description=about, help=short)
         what = "JSON lines" if name == "from-lines" else "the report"
         one.add_argument("file", metavar="FILE", nargs="?", help=f"{what}; standard input by default")
-        if name in ["svg", "html"]:
-            one.add_argument("--title", default="", help="the text above the picture")
-            one.add_argument("--job", metavar="NAME", action="append", default=[],
-                             help="draw this job; may be repeated")
-            one.add_argument("--sort", choices=list(_ROW_ORDERS), help="the order of the rows: by the moment of the end, "
-                             "by name, or the most attempts first; else that of the report")
-            _add_view(one)
         _ADDED.get(name, lambda one: None)(one)
         one.set_defaults(work=work)
     joined = forms.add_parser("join", description=JOIN, help="one report of many")

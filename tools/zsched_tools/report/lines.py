@@ -42,12 +42,6 @@ def _attempt_lines(item):
         yield f"step {item['attempt']} out {item['out']} {after}"
 
 
-def _end_line(item):
-    """The report's line for an object of type end."""
-    result = {"succeeded": f" {item['value']}", "failed": f" {item['value']}", "finished": f" {item['out']}"}
-    return f"end {item['ending']}{result.get(item['ending'], '')} at {item['at']} polls {item['polls']}"
-
-
 def report_lines(item, is_open):
     """The report's lines for a JSON object. If no job is open, the job's first line is before them."""
     if item["type"] == "total":
@@ -56,7 +50,9 @@ def report_lines(item, is_open):
     if item["type"] == "attempt":
         return first + list(_attempt_lines(item))
     if item["type"] == "end":
-        return first + [_end_line(item)]
+        result = {"succeeded": f" {item['value']}", "failed": f" {item['value']}", "finished": f" {item['out']}"}
+        how = item["ending"]
+        return [*first, f"end {how}{result.get(how, '')} at {item['at']} polls {item['polls']}"]
     raise KeyError(item["type"])
 
 

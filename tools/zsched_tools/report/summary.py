@@ -112,13 +112,6 @@ class Summary:
         return table([HEAD, *(cells for _, cells in sorted(self.rows, key=lambda row: row[0]))])
 
 
-def _percentiles(times, jobs):
-    """The times within which 50, 95 and 99 % of the jobs ended. An unfinished job counts as the longest."""
-    for percent in PERCENTS:
-        rank = -(-percent * jobs // 100)
-        yield f"p{percent} {duration(times[rank - 1]) if rank <= len(times) else 'unfinished'}"
-
-
 def _lines(summary):
     """The lines about all jobs together."""
     jobs, within = summary.jobs(), summary.options.within
@@ -129,7 +122,10 @@ def _lines(summary):
     if most:
         yield f"most attempts at once: {most}, first at {duration(moment)}"
     if jobs:
-        yield f"time to the end: {', '.join(_percentiles(sorted(summary.times), jobs))}"
+        # An unfinished job takes longer than all others.
+        times, ranks = sorted(summary.times), {percent: -(-percent * jobs // 100) - 1 for percent in PERCENTS}
+        yield "time to the end: " + ", ".join(f"p{it} {duration(times[rank]) if rank < len(times) else 'unfinished'}"
+                                              for it, rank in ranks.items())
     if within is not None:
         share = 10_000 * summary.well // jobs if jobs else 0
         yield (f"ended well within {duration(within)}: {summary.well} of {plural(jobs, 'job')}, "
