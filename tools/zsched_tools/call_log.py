@@ -158,7 +158,6 @@ class Reader:
         raise Refused(f"{self.path}:1: {option}: {what}; the columns are {columns}")
 
     def _find_columns(self):
-        """Finds the columns by their names."""
         given = self.given
         self.request = self._column(given.name, REQUESTS, "--name")
         self.status = self._column(given.status, STATUSES, "--status", [self.request.number])
@@ -184,7 +183,6 @@ class Reader:
         self.has_moments = self.begin is not None or self.end is not None
 
     def _calls(self):
-        """The attempts."""
         begins, begin_form = self._moments(self.begin)
         ends, end_form = self._moments(self.end)
         lengths, unit = self._lengths() if begins is None or ends is None else (None, None)
@@ -204,7 +202,6 @@ class Reader:
         return sorted(calls, key=lambda call: call.begin) if self.has_moments else calls
 
     def _lengths(self):
-        """The lengths of the attempts, and their unit."""
         if self.length is None:
             return None, None
         unit = self.length.unit or self.given.unit or "ms"
@@ -258,7 +255,6 @@ class Reader:
         return seconds * 10**9 + int((fraction or "0").ljust(9, "0"))
 
     def _statuses(self):
-        """Whether each attempt succeeded, and its code."""
         is_grpc, found, known = "grpc" in self.status.name.lower(), [], {}
         for row, cells in self.rows:
             cell = cells[self.status.number].strip()

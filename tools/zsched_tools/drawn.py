@@ -1,17 +1,8 @@
-"""Policies in the words of the tools: schedules with sugar, random numbers, and policies of config files.
+"""Policies in the words of the tools: schedules with sugar, random numbers, names, and policies of config files.
 
-    delays(1s, 1.5s, 2.25s)                     these waits, one after another
-    exponential(1s, 1.5, max 10s, 9 retries)    a fraction as the factor, a cap, a number of retries
-    S jitter full                               each wait of S drawn evenly from 0 to the wait
-    rand(LO, HI)                                a number that is drawn once
-    jitter(BASE, CAP, N)                        ((exponential(BASE) || spaced(CAP)) && recurs(N)) jitter full
-    @FILE#NAME                                  the policy NAME that `zsched-policy import FILE` finds
-    NAME: S                                     S with a name
-
-`jitter equal` draws from half of the wait to the wait, `jitter 20%` from 80 % to 120 % of it, and `jitter 2/3..1` from two
-thirds of it to the wait. A schedule has no random numbers, so each draw is a schedule in which its numbers are written.
-The waits of S come from the program. They must depend on nothing but their number. The first 239 are drawn one by one, and
-all later ones, which must be equal, with one draw."""
+docs/FORMATS.md has all forms. A schedule has no random numbers, so each draw is a schedule in which its numbers are
+written. The waits of `S jitter ..` come from the program, and must depend on nothing but their number. The first 239 are
+drawn one by one, and all later ones, which must be equal, with one draw."""
 import functools
 import itertools
 import re
@@ -87,7 +78,6 @@ class Policy:
             raise FaultAt(fault.cause._replace(at=self.begin + fault.cause.at)) from None
 
     def _read(self):
-        """Reads the source as pieces."""
         edits = [edit for found in _AFTER.finditer(self.source) for edit in self._jitter(found)]
         for found in _CALL.finditer(self.source):
             is_inside = any(edit.at <= found.start() < edit.at + edit.size for edit in edits)
@@ -252,7 +242,6 @@ def _called(found):
 
 
 def _milliseconds(at, size, text):
-    """A duration of a call."""
     try:
         return milliseconds(text)
     except ValueError as fault:
@@ -347,7 +336,6 @@ def _jittered(zsched, inner, at, ends, random):
 
 
 def _delay(wait, count=1):
-    """The schedule of a delay that is repeated."""
     return f"(recurs({count})&&spaced({wait}))"
 
 

@@ -2,7 +2,7 @@
 import functools
 import re
 
-from zsched_tools import json_reading, not_json
+from zsched_tools import json_reading
 from zsched_tools.place import Cause
 from zsched_tools.plan_faults import DOCUMENT_FAULTS, JOB_FAULTS, schedule_fault, script_fault
 from zsched_tools.positions import Document
@@ -58,9 +58,9 @@ def explained(plan, fault):
         return Explained(text, Cause(at, 0, what, "make plans of fewer jobs"))
     if fault == "plan is not JSON":
         if plan.no_utf8 is not None:
-            return Explained(text, not_json.no_utf8(data, text, plan.no_utf8))
+            return Explained(text, json_reading.no_utf8(data, text, plan.no_utf8))
         found = plan.no_json or _unknown(0)
-        return Explained(text, not_json.other_text(text, found.at) or found)
+        return Explained(text, json_reading.other_text(text, found.at) or found)
     return _in_document(plan.root, text, fault)
 
 
@@ -76,7 +76,6 @@ def _in_document(plan, text, fault):
 
 
 def _of_job(jobs, job, cause):
-    """The cause of a fault of a job."""
     if cause.startswith("schedule: "):
         return schedule_fault(job, cause.removeprefix("schedule: "))
     if cause.startswith("script: "):

@@ -85,7 +85,6 @@ def unknown_key(node, where, known):
 
 
 def _key_help(said, where, known):
-    """What was meant by an unknown key."""
     for owner, keys in _OWNERS:
         if said in keys:
             return f'"{said}" is a key of {owner}'
@@ -217,7 +216,6 @@ def _tick_cause(ticks):
 
 
 def _at_tick(ticks, parts, number, what, help):
-    """A cause at the tick with this number."""
     begin = ticks.at + 1 + sum(map(len, parts[:number])) + number
     part = parts[number]
     return Cause(begin + len(part) - len(part.lstrip()), len(part.strip()), what, help)

@@ -111,7 +111,6 @@ def _whole(text):
 
 
 def _no_whole(text):
-    """A number that no plan has."""
     raise ValueError(text)
 
 
@@ -149,7 +148,6 @@ def _leaf(piece, world):
 
 
 def _joined(operator, left, right):
-    """The bound of two schedules under an operator."""
     if operator == "andThenEither":
         return Bound(left.count + right.count, min(left.wait, right.wait))
     out = (left.out, right.out)

@@ -66,6 +66,5 @@ class Now:
             write("")
 
     def _show(self):
-        """Writes the line until the work ends."""
         while not self.stopped.wait(self.every):
             write(f"{time.monotonic() - self.begun:.0f} s: {self.words}")

@@ -130,7 +130,6 @@ class Reader:
         raise Refused(f"line {self.line} {why}: {shown(text)}")
 
     def _due(self):
-        """The records that may be next, in words."""
         last = self.attempt
         if self.job is None:
             return "a job or the last line"
@@ -207,7 +206,6 @@ class Reader:
         return ending
 
     def _is_ending_of_last(self, ending):
-        """Whether an ending follows from the last attempt."""
         last = self.attempt
         if ending.how == "unfinished":
             is_open = last is None or last.end is None or last.next is not None

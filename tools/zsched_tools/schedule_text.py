@@ -1,19 +1,28 @@
 """Why a text is not a schedule, in words. The program reports the place; the tokens before it determine what is expected
 there."""
 import re
+import unicodedata
+from fractions import Fraction
 from typing import NamedTuple
 
 from zsched_tools.durations import UNITS, in_milliseconds
 from zsched_tools.hints import (BARE_LEAVES, COMPARISONS, LEAVES, METHODS, NUMBERED_LEAVES, OPERATORS, SYMBOLS, TABLE,
                                 near, said, zio)
 from zsched_tools.place import Cause
-from zsched_tools.schedule_slips import slip
 from zsched_tools.words import shown
 
 TOKEN = re.compile(r"(?P<word>[A-Za-z]+)|(?P<number>[0-9]+)|(?P<mark>_[12]|&&|\|\||<=|!=|>=|[(),.<=>+*])")
 WINDOW = 4000
 _WORDS = LEAVES + METHODS + ["andThenEither", "size", "merge"]
 _NO_SPACE = {"\t": "tab", "\n": "line_end", "\r": "line_end"}
+# What other tools write instead of a schedule: templates, cron lines, arguments with names, exponents.
+_TEMPLATE = re.compile(r"\{\{.*?\}\}|\$\{[^}]*\}|\$\([^)]*\)|\$[A-Za-z_]\w*|%[A-Z_]{2,}%|<[A-Z][A-Z_]+>")
+_EXPONENT = re.compile(r"((?:\.[0-9]{1,9})?)[eE]\+?([0-9]{1,2})(?!\w)")
+_CRON = re.compile(r" *(?:[0-9*?,/LW#-]+ +){4,6}[0-9A-Za-z*?,/LW#-]+ *")
+_CRON_NAME = re.compile(r"@(?:hourly|daily|midnight|weekly|monthly|yearly|annually|every\b.*)")
+_ISO = re.compile(r"P(?:[0-9]+D)?(?:T(?:[0-9.]+[HMS])+)?(?!\w)")
+_NAMED = re.compile(r"([A-Za-z_]\w*) *[=:] *([0-9]+)")
+_LONGEST = 60
 
 
 class Spot(NamedTuple):
@@ -97,12 +106,10 @@ def innermost(before):
 
 
 def _open_count(spot):
-    """The number of open parentheses."""
     return spot.text.count("(", 0, spot.at) - spot.text.count(")", 0, spot.at)
 
 
 def _ended(spot):
-    """The text ends within a schedule."""
     expected, count = expectation(spot.before), _open_count(spot)
     if not spot.before:
         return spot.cause(0, "empty", "write_one")
@@ -131,7 +138,6 @@ def _after_number(spot):
 
 
 def _fraction(spot, number, size):
-    """The cause of a number with a point."""
     unit = re.match(r"[ .]{0,3}([A-Za-z]+)", spot.rest[size:])
     if unit and unit[1].lower() in UNITS:
         return spot.cause(size + unit.end(), "no_point_no_unit", in_milliseconds(number + unit[1]))
@@ -246,7 +252,6 @@ def _needless_close(spot, opened):
 
 
 def _no_method(spot):
-    """No method follows a point."""
     token = spot.token()
     if token == "forever":
         return spot.cause(None, "no_method", "continues")
@@ -258,7 +263,6 @@ def _no_method(spot):
 
 
 def _no_number(spot):
-    """A number is expected, but it is missing."""
     zeros = re.match(r"0[0-9]+", spot.rest)
     if zeros:
         return spot.cause(zeros.end(), "zeros", "write", text=shown(zeros[0].lstrip("0") or "0"))
@@ -269,7 +273,6 @@ def _no_number(spot):
 
 
 def _no_test(spot, expected):
-    """A comparison is expected, but it is missing."""
     token = spot.token()
     if token.isdigit():
         return spot.cause(None, "comparison_before", "compared_with")
@@ -279,7 +282,6 @@ def _no_test(spot, expected):
 
 
 def _no_close(spot):
-    """The arguments don't end."""
     token, word = spot.token(), spot.last(3)
     if token in OPERATORS and spot.last(2) in COMPARISONS and re.match(
             r"(?:&&|\|\|) *(?:(?:_[12]|size) *)?[<>=!]", spot.rest):
@@ -291,6 +293,95 @@ def _no_close(spot):
         written = shown(spot.last() + groups[0].replace(",", "")) if groups else ")"
         return spot.cause(1, "takes_one", "only_exponential", word=word, text=written)
     return spot.cause(None, "close_here", "write_close")
+
+
+def slip(spot, expected):
+    """The Cause of a slip at a Spot, or None. `expected` is what has to follow there."""
+    for look in (_template, _cron, _exponent, _duration, _named, _third_number, _deep_pick, _limit_of_time, _odd_mark):
+        found = look(spot, expected)
+        if found:
+            return found
+    return None
+
+
+def _template(spot, _):
+    found = _TEMPLATE.match(spot.rest)
+    return found and spot.cause(found.end(), "template", "fill")
+
+
+def _cron(spot, _):
+    text = spot.text.strip()
+    if not (_CRON.fullmatch(spot.text) or _CRON_NAME.match(text)):
+        return None
+    minutes = re.fullmatch(r"\*/([0-9]{1,4}) \* \* \* \*", text)
+    period = int(minutes[1]) * 60000 if minutes else TABLE["periods"].get(text)
+    return spot.cause(len(spot.rest.rstrip()), "cron", "fixed" if period else "fixed_n", text=period)
+
+
+def _exponent(spot, _):
+    found = _EXPONENT.match(spot.rest)
+    if not found or not spot.last().isdigit():
+        return None
+    value = Fraction(spot.last()[:19] + found[1]) * 10**int(found[2])
+    is_whole = value.denominator == 1 and value < 2**64
+    return spot.cause(found.end(), "no_exponent", "write" if is_whole else "all_digits", text=value)
+
+
+def _duration(spot, expected):
+    """A duration of ISO 8601 instead of a number."""
+    found = _ISO.match(spot.rest)
+    if expected != "number" or not found or len(found[0]) < 3:
+        return None
+    return spot.cause(found.end(), "no_unit", in_milliseconds(found[0]))
+
+
+def _named(spot, expected):
+    found = _NAMED.match(spot.rest)
+    if expected != "number" or not found:
+        return None
+    leaf, given = (spot.last(2), []) if spot.last() == "(" else (spot.last(4), [spot.last(2)])
+    if leaf not in NUMBERED_LEAVES:
+        return spot.cause(found.end(), "no_name", "only", text=found[2])
+    if given and found[1].lower() in TABLE["caps"]:
+        return spot.cause(found.end(), "no_name", "a_cap", word=leaf, first=given[0], text=found[2])
+    numbers = given + re.findall(r"[0-9]+", spot.rest.split(")")[0])
+    most = 2 if leaf == "exponential" else 1
+    return spot.cause(found.end(), "no_name", "write", text=f"{leaf}({', '.join(numbers[:most])})")
+
+
+def _third_number(spot, expected):
+    is_third = expected == "close" and spot.rest.startswith(",") and spot.last(5) == "exponential"
+    return spot.cause(1, "two_numbers", "third", first=spot.last(3)) if is_third else None
+
+
+def _deep_pick(spot, _):
+    found, method = re.match(r"\._([12])", spot.rest), spot.last(3)
+    if not found or spot.last() not in ("_1", "_2") or method not in METHODS:
+        return None
+    return spot.cause(found.end(), "one_level", "write", text=f".map({spot.last()}).{method}(_{found[1]}" + (
+        ")" if method == "map" else " .."))
+
+
+def _limit_of_time(spot, _):
+    found = re.match(r"upTo *\(([^()]*)\)", spot.rest)
+    before = spot.text[:spot.at].rstrip(" .")
+    if not found or spot.last() != "." or before.count("(") != before.count(")") or len(before) > _LONGEST:
+        return None
+    time = found[1].strip()
+    if not time.isdigit():
+        time = re.sub(r"\D*([0-9]+).*", r"\1", in_milliseconds(time))
+    return spot.cause(len("upTo"), "up_to", "elapsed", first=before, text=time) if time.isdigit() else None
+
+
+def _odd_mark(spot, _):
+    """A mark that other languages use, as a semicolon."""
+    letter = spot.rest[0]
+    plain = unicodedata.normalize("NFKC", letter)
+    if letter == ";":
+        return spot.cause(1, "semicolon", "joined")
+    if not letter.isascii() and len(plain) == 1 and "!" <= plain <= "~":
+        return spot.cause(1, "no_ascii", "write", word=letter, text=plain)
+    return None
 
 
 _EXPECTED = {

@@ -154,5 +154,4 @@ def _name_of(job):
 
 
 def _shape(source):
-    """A piece of a job without its numbers."""
     return _NUMBER.sub("1", source)

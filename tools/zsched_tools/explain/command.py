@@ -57,7 +57,6 @@ def words():
 
 
 def _explain(taken):
-    """Explains the plan. Returns the exit status."""
     name, paint = "standard input" if taken.plan == "-" else taken.plan, command.Paint(taken.color, sys.stderr)
     zsched = program.find(taken.zsched)
     look = Look(command.read(taken.plan, program.MAX_BYTES + 1))

@@ -55,7 +55,9 @@ def certified(scenario, simulated, reports, others=()):
         if client.name != name_of(number):
             raise Uncertified(f"the report has job {client.name}, but {name_of(number)} is expected")
         _hold(client, simulated[number])
-        runs[number] = Run(client.begins, b"", _tail(client.ending, code))
+        # If the budget ended the run, the walk over the bucket must find that ending.
+        tails = {"failed": CUT if client.ending.value == code else DONE, "unfinished": GOES_ON}
+        runs[number] = Run(client.begins, b"", tails.get(client.ending.how, CUT))
     walk = Walk(scenario, [runs[number] for number in range(len(simulated))])
     clients = {number: _simulated(scenario, number, run, walk.found[number], simulated[number])
                for number, run in others.items()} | dict(zip(numbers, found))
@@ -67,7 +69,6 @@ def certified(scenario, simulated, reports, others=()):
 
 
 def _simulated(scenario, number, run, kinds, ending):
-    """A client that is in no report."""
     outcomes = [scenario.outcomes[kind & ~DENIED] for kind in kinds]
     lengths = array("Q", [outcome.ms for outcome in outcomes])
     if ending.how == "unfinished" and run.begins[len(kinds) - 1] + lengths[-1] > scenario.horizon:
@@ -79,18 +80,11 @@ def _simulated(scenario, number, run, kinds, ending):
                   bytes(outcome.is_ok for outcome in outcomes), ending)
 
 
-def _tail(ending, code):
-    """The tail of a run with this ending. If the budget ended the run, the walk over the bucket must find that ending."""
-    if ending.how == "failed":
-        return CUT if ending.value == code else DONE
-    return GOES_ON if ending.how == "unfinished" else CUT
-
-
 def _hold(client, wanted):
     """Raises Uncertified unless a client has the wanted ending."""
     if client.ending != wanted:
-        words = "unfinished" if wanted is None else wanted.words()
-        raise Uncertified(f"job {client.name}: simulated {words}; the report has {client.ending.words()}")
+        raise Uncertified(f"job {client.name}: simulated {'unfinished' if wanted is None else wanted.words()}; "
+                          f"the report has {client.ending.words()}")
 
 
 def _hold_attempts(scenario, client, kinds):

@@ -191,7 +191,6 @@ def _all(given, scenario, zsched):
 
 
 def _print(given, scenario, figures):
-    """The policies and the table, or the JSON."""
     if given.json:
         print(to_json(scenario, figures))
         return
@@ -203,7 +202,6 @@ def _print(given, scenario, figures):
 
 
 def _exceeded(given, figures):
-    """The limits that a policy exceeds, in words."""
     if given.max_peak is not None:
         most, span = given.max_peak
         peak = figures.curve.peak(span)

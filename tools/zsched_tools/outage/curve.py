@@ -155,10 +155,8 @@ def table(scenario, figures):
     for number, (_, _, words) in enumerate(SPANS if scenario.back is not None else ()):
         head = "  " if number else f"peak after {duration(scenario.back)}, "
         yield row(head + words, lambda it, number=number: _peak(it.peaks_after[number]))
-    names = [f"p{percent}" for percent in SHARES] + ["greatest"]
-    for number, name in enumerate(names):
-        words = f"time to success, {name}" if number == 0 else f"  {name}"
-        yield row(words, lambda it, number=number: _time(it.shares()[number]))
+    for number, name in enumerate([*(f"p{percent}" for percent in SHARES), "greatest"]):
+        yield row(("  " if number else "time to success, ") + name, lambda it, number=number: _time(it.shares()[number]))
     yield row("last success at", lambda it: _time(it.last_success))
     if scenario.back is not None:
         yield row(f"recovery after {duration(scenario.back)}", lambda it: _time(it.recovery))
@@ -176,16 +174,10 @@ def _time(time):
 def headline(scenario):
     """The scenario in one line."""
     clients = f"{len(scenario.starts):,} client{'s' * (len(scenario.starts) != 1)}"
-    words = [f"{clients} {scenario.coming}", *map(window_words, scenario.windows)]
-    if scenario.budget is not None:
-        words.append(f"a budget like {scenario.budget.like}'s")
-    return "; ".join([*words, f"until {duration(scenario.horizon)}", f"seed {scenario.seed}"])
-
-
-def window_words(window):
-    """A window in words: its times and its state."""
-    until = "" if window.end > LAST_MOMENT else f" to {seconds(window.end)}"
-    return f"{state_words(window)} from {seconds(window.begin)}{until}"
+    windows = [f"{state_words(it)} from {seconds(it.begin)}" + ("" if it.end > LAST_MOMENT else f" to {seconds(it.end)}")
+               for it in scenario.windows]
+    budget = [f"a budget like {scenario.budget.like}'s"] if scenario.budget is not None else []
+    return "; ".join([f"{clients} {scenario.coming}", *windows, *budget, f"until {duration(scenario.horizon)}", f"seed {scenario.seed}"])
 
 
 def seconds(moment):

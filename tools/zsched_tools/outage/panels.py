@@ -109,7 +109,6 @@ def _wrapped(words, room):
 
 
 def _windows(layout, top):
-    """The shaded windows of a panel."""
     for window in layout.scenario.windows:
         left, right = layout.scale.at(window.begin), layout.scale.at(window.end)
         if window.begin < layout.scale.last:
@@ -140,7 +139,6 @@ def _grid(layout, top):
 
 
 def _height(layout, top, load):
-    """The place of a load in a panel."""
     return top + PANEL * (1 - load / layout.steps[-1])
 
 

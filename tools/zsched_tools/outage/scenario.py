@@ -7,7 +7,7 @@ import re
 from dataclasses import dataclass, field, replace
 from typing import NamedTuple
 
-from zsched_tools import json_reading, not_json
+from zsched_tools import json_reading
 from zsched_tools.command import Refused
 from zsched_tools.drawn import Policy
 from zsched_tools.durations import milliseconds
@@ -90,7 +90,7 @@ def read_scenario(data):
         text = data.decode()
     except UnicodeDecodeError as bad:
         text = data.decode(errors="replace")
-        raise FaultAt(_of_scenario(not_json.no_utf8(data, text, len(data[:bad.start].decode())))) from None
+        raise FaultAt(_of_scenario(json_reading.no_utf8(data, text, len(data[:bad.start].decode())))) from None
     cause = json_reading.fault_of(text)
     if cause is not None:
         raise FaultAt(_of_scenario(cause))
@@ -100,8 +100,8 @@ def read_scenario(data):
 def _of_scenario(cause):
     """A cause that mentions plans, in the words of scenarios."""
     what, help = (re.sub(r"\b(a|the|no) plan\b", r"\1 scenario", words)
-                  for words in [cause.what, cause.help.removeprefix(not_json.FROM)])
-    return cause._replace(what=what, help=help.replace(not_json.SKETCH, SKETCH))
+                  for words in [cause.what, cause.help.removeprefix(json_reading.FROM)])
+    return cause._replace(what=what, help=help.replace(json_reading.SKETCH, SKETCH))
 
 
 def _refuse(node, what, help=""):
@@ -131,7 +131,6 @@ _SAMPLES = {"horizon": '"3min"', "clients": '{"number": 1000, "within": "1s"}', 
 
 
 def _key_help(key, known):
-    """What to write instead of an unknown key."""
     if key in ("jobs", "workers", "grain", "ticks"):
         return "this is a key of a plan, which zsched runs; a scenario has clients, windows and policies"
     meant = near(key, known)
@@ -154,7 +153,6 @@ def _time(node, what):
 
 
 def _whole(node, what, least=0, most=2**64 - 1):
-    """A whole number within bounds."""
     found = node.whole()
     if found is None or not least <= found <= most:
         _refuse(node, f"{what} must be a whole number from {least} to {most}")
@@ -162,7 +160,6 @@ def _whole(node, what, least=0, most=2**64 - 1):
 
 
 def _word(node, what, words):
-    """A text that is one of some words."""
     found = node.string() if node.kind == "text" else None
     if found not in words:
         meant = near(found, words) if found else None
@@ -260,7 +257,6 @@ class _Reading:
 
     @staticmethod
     def _window(parts, begin, end):
-        """A window with its state and capacity."""
         state = STATES.index(_word(parts["is"], '"is"', STATES[:FULL])) if "is" in parts else UP
         capacity = _whole(parts["capacity"], "the capacity", 1, MOST_CLIENTS) if "capacity" in parts else None
         if capacity is not None and state == DOWN:
@@ -273,7 +269,6 @@ class _Reading:
         return Window(begin, end, state, capacity, per)
 
     def _budget(self, node):
-        """The bucket of tokens for retries."""
         given = _members(node, "the budget", None, ["like"])
         like = _word(given["like"], '"like"', list(BUDGETS))
         parts = _members(node, f'a budget like "{like}"', BUDGETS[like], ["tokens"])
@@ -288,7 +283,6 @@ class _Reading:
                                       retry if like == "aws" else THOUSAND, code)
 
     def _policies(self, node):
-        """The policies by name."""
         parts = _members(node, "policies", None, [])
         if not parts:
             _refuse(node, "policies is empty", 'write {"NAME": "SCHEDULE"}, as {"backoff": "exponential(100)"}')

@@ -1,9 +1,5 @@
-"""The run of all clients of a policy in a scenario, found by running the program alone until no outcome changes.
-
-Each pass runs the clients that are still open as if the service served no attempt. From the moments at which their
-attempts begin, `Walk` then computes how each client ends. A client whose attempts failed as they were run is settled; the
-others run again with the computed outcomes. At the end the outcomes are written as a plan, which the program runs once
-more: `certificate` compares that report with the scenario.
+"""The run of all clients of a policy in a scenario, found by running the program alone until no outcome changes, as the
+help of zsched-outage says: `Walk` computes how each client ends, and `certificate` compares the last report.
 
 A script has at most 1,000 entries, and the last one repeats. A client of more attempts is run so, and only up to a moment.
 It can be certified if all its attempts from the 1,000th on end alike."""
@@ -125,16 +121,11 @@ class Search:
         return job_text(name_of(client), self.schedules[client], entries, start=self.scenario.starts[client])
 
     def _script(self, kinds):
-        """The entries of a script with these kinds."""
-        text = self.scripts.get(kinds)
-        if text is None:
-            text = self.scripts[kinds] = ",".join(self._entry(kind) for kind in kinds)
-        return text
-
-    def _entry(self, kind):
-        """The entry of an attempt of this kind."""
-        outcome = self.scenario.outcomes[kind & ~DENIED]
-        return (outcome._replace(value=self.scenario.budget.code) if kind & DENIED else outcome).entry()
+        if kinds not in self.scripts:
+            outcomes = ((self.scenario.outcomes[kind & ~DENIED], kind & DENIED) for kind in kinds)
+            self.scripts[kinds] = ",".join((it._replace(value=self.scenario.budget.code) if is_denied else it).entry()
+                                           for it, is_denied in outcomes)
+        return self.scripts[kinds]
 
     def final_jobs(self, walk):
         """The jobs of the plan in which each attempt has the computed outcome; None for a client whose script has no room

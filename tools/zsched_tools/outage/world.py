@@ -164,13 +164,7 @@ class Walk:
         ending, kinds, run = self.endings[client], self.found[client], self.runs[client]
         if ending is None:
             return False
-        is_free = ending.how == "succeeded" or (ending.how == "unfinished" and self._is_running(client))
-        count = min(len(kinds) - is_free, MOST_ENTRIES)
+        is_running = ending.how == "unfinished" and kinds and (
+            run.begins[len(kinds) - 1] + self.scenario.outcomes[kinds[-1]].ms > self.scenario.horizon)
+        count = min(len(kinds) - bool(ending.how == "succeeded" or is_running), MOST_ENTRIES)
         return kinds[:count].translate(self.outcomes) == run.kinds[:count].translate(self.outcomes)
-
-    def _is_running(self, client):
-        """Whether the client's last attempt still runs at the horizon."""
-        kinds, begins = self.found[client], self.runs[client].begins
-        if not kinds:
-            return False
-        return begins[len(kinds) - 1] + self.scenario.outcomes[kinds[-1]].ms > self.scenario.horizon

@@ -32,7 +32,6 @@ def _split(given):
 
 
 def _arguments():
-    """The parser of the command line."""
     parser, forms = command.forms(TOOL, DESCRIPTION, EPILOG, "FORM")
     split = forms.add_parser("split", description=SPLIT, help="a plan cut by its jobs")
     count = command.number(1, MOST_JOBS, f"{{}} isn't a number of jobs from 1 to {MOST_JOBS}")

@@ -1,13 +1,9 @@
 """Policies in Python source: the decorators and classes of tenacity, and the decorators of backoff.
 
-What each one waits. tenacity 8 (source of `wait.py`, as pip has it): wait_exponential waits multiplier *
-exp_base^(n-1) s, at least min, at most max. backoff 2 (from memory, and docs/POLICIES.md): expo waits factor *
-base^(n-1) s, at most max_value, and the jitter is full_jitter if it isn't set; fibo 1, 1, 2, 3, 5 .. s; constant
-`interval`, 1 s. Both count the first attempt in stop_after_attempt and max_tries, and their limits of time from the
-begin of the first attempt.
-
-The source is read by `ast`, and never run: a number may be written out, computed from numbers, or be a constant of
-the module."""
+tenacity 8 (source of `wait.py`, as pip has it): wait_exponential waits multiplier * exp_base^(n-1) s, at least min, at
+most max. backoff 2 (from memory, and docs/POLICIES.md): expo waits factor * base^(n-1) s, at most max_value; fibo 1, 1, 2,
+3, 5 .. s. Both count the first attempt in stop_after_attempt and max_tries, and their limits of time from its begin. The
+source is read by `ast`, and never run."""
 import ast
 import itertools
 import math
@@ -239,7 +235,6 @@ class _Tenacity:
 
 
 def _backoff(source, node):
-    """A policy of backoff."""
     given = source.arguments(node, "wait_gen", source.called(node).removeprefix("backoff.on_"))
     wait, left_out = given.pop("wait_gen", node), []
     kind = source.called(wait).removeprefix("backoff.")

@@ -60,7 +60,6 @@ def _sized(data, line):
 
 
 def _put(table, key, node, line):
-    """Adds a value to a table."""
     if key in table:
         raise Wrong(line, f'the key "{key}" is on line {table[key].line} too; remove one of them')
     table[key] = node

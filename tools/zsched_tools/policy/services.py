@@ -1,17 +1,13 @@
 """Policies in the configuration of services: gRPC, Envoy, Istio, Temporal, Kubernetes and the AWS SDKs.
 
-What each one waits, by its documents unless it says otherwise:
+docs/POLICIES.md has their defaults and sources. By their documents unless it says otherwise:
 
-- gRPC (gRFC A6): the n-th wait is min(initialBackoff * backoffMultiplier^(n-1), maxBackoff), drawn 20 % above or
-  below it. A maxAttempts above 5 counts as 5.
-- Envoy (retry policy of a route): the n-th wait is drawn from 0 to base * (2^n - 1), at most max_interval, which is
-  ten times the base if it isn't set. num_retries is 1 if it isn't set, the base 25 ms.
-- Istio (HTTPRetry): Envoy's, and `attempts` counts retries; 2 if it isn't set (from memory).
-- Temporal (Retry Policies): initialInterval * backoffCoefficient^(n-1), at most maximumInterval, which is 100 times
-  the initial one if it isn't set. maximumAttempts counts the first attempt, and 0 is no limit.
-- Kubernetes, a Job: 10 s, doubled, at most 6 minutes. From 1.27 or so on the source has 10 minutes (from memory).
-- AWS SDKs: botocore 1.43.11 (source). standard and adaptive: drawn from 0 to min(2^(n-1) s, 20 s), 3 attempts;
-  legacy: drawn from 0 to 2^(n-1) s, 5 attempts. Without retry_mode botocore's mode is legacy."""
+- gRPC (gRFC A6): the n-th wait is drawn 20 % above or below it. A maxAttempts above 5 counts as 5.
+- Envoy: the n-th wait is drawn from 0 to base * (2^n - 1), at most max_interval, which is ten times the base if it isn't
+  set.
+- Temporal: maximumAttempts counts the first attempt, and 0 is no limit.
+- Kubernetes, a Job: from 1.27 or so on the source has a cap of 10 minutes (from memory).
+- AWS SDKs, legacy: drawn from 0 to 2^(n-1) s, 5 attempts. Without retry_mode botocore's mode is legacy."""
 import functools
 import itertools
 from fractions import Fraction
@@ -81,7 +77,6 @@ def _methods(entry):
 
 
 def _code(node):
-    """The name of a status code."""
     text = str(node.data).upper()
     text = CODES[int(text)] if text.isdigit() and len(text) < 3 and int(text) < len(CODES) else text
     if text not in CODES:

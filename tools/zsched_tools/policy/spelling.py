@@ -153,7 +153,6 @@ def _runs(waits, retries):
 
 
 def _chain(runs):
-    """Pieces of equal waits, one after another."""
     pieces = [(f"spaced({wait})" if wait else "forever") if count is None else
               f"(recurs({count}) && spaced({wait}))" if wait else f"recurs({count})" for wait, count in runs]
     if len(runs) == 1 and runs[0][0] and runs[0][1] is not None:

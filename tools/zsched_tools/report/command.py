@@ -130,7 +130,6 @@ def _join(given):
 
 
 def _step(word):
-    """A duration of at least 1 ms."""
     found = duration_argument(word)
     if found == 0:
         raise argparse.ArgumentTypeError("a step of time takes at least 1 ms")
@@ -138,7 +137,6 @@ def _step(word):
 
 
 def _add_summary(one):
-    """Adds the arguments that only `summary` has."""
     one.add_argument("--sort", choices=list(SORTS), help="the table's order: by the moment of the end, by name, or the "
                      "most attempts first; else that of the report")
     one.add_argument("--one-line", action="store_true", help="only the figures below the table, in one line")
@@ -147,7 +145,6 @@ def _add_summary(one):
 
 
 def _add_load(one):
-    """Adds the arguments that only `load` has."""
     one.add_argument("--every", metavar="TIME", type=_step, default=load.SECOND,
                      help="the length of a step, such as 250ms, 1s or 5min (1s)")
     one.add_argument("--title", default="", help="the text above the picture")
@@ -157,7 +154,6 @@ def _add_load(one):
 
 
 def _add_picture(one):
-    """Adds the arguments of a picture."""
     one.add_argument("--title", default="", help="the text above the picture")
     one.add_argument("--job", metavar="NAME", action="append", default=[], help="draw this job; may be repeated")
     one.add_argument("--sort", choices=list(_ROW_ORDERS), help="the order of the rows: by the moment of the end, by name, "
@@ -172,7 +168,6 @@ _ADDED = {"summary": _add_summary, "load": _add_load, "svg": _add_picture, "html
 
 
 def _arguments():
-    """The parser of the command line."""
     parser, forms = command.forms(TOOL, DESCRIPTION, EPILOG, "FORM")
     for name, work, about, short in [
             ("lines", _lines, LINES, "JSON lines"),

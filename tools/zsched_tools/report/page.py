@@ -91,7 +91,6 @@ def report_of(rows):
 
 
 def _head(title):
-    """The page up to its title."""
     name = html.escape(title or "Timeline of a report of zsched")
     yield HEAD.format(title=name, style=hints.piece("drawing-style"))
     if title:

@@ -81,7 +81,6 @@ class Summary:
             self.total = record.polls
 
     def _end(self, job, attempts, ending):
-        """Adds a job that ended."""
         attempts.close(ending)
         self.endings[ending.how] += 1
         self.attempts += attempts.count
@@ -113,7 +112,6 @@ class Summary:
 
 
 def _lines(summary):
-    """The lines about all jobs together."""
     jobs, within = summary.jobs(), summary.options.within
     said = ", ".join(f"{number} {how}" for how, number in summary.endings.items())
     attempts = plural(summary.attempts, "attempt")

@@ -112,7 +112,6 @@ def _entries(given, policy):
 
 
 def _exceeded(given, policy, found):
-    """The bounds that a policy exceeds, in words."""
     has_end = found.how != "unfinished" and not (policy.is_cut and found.how in ("failed", "finished"))
     if given.max_wait is not None and found.longest > given.max_wait:
         yield f"longest wait {duration(found.longest)}, over --max-wait {duration(given.max_wait)}"
@@ -166,12 +165,10 @@ def _read(given):
 
 
 def _source(given, text):
-    """The random numbers of a policy."""
     return random.Random(f"{given.seed} {text}")
 
 
 def _wrong(tool, given, cause):
-    """Shows the fault of the policy number `given.at`."""
     text = given.policies[given.at]
     which = f"policy {given.at + 1}, " if len(given.policies) > 1 else ""
     place = f"{tool}: {which}byte {len(text[:cause.at].encode())}"
