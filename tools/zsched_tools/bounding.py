@@ -31,7 +31,6 @@ class Bounds:
     is_limited: bool = False
 
     def attempts(self):
-        """The attempts in words."""
         if self.least > self.seen == MOST_STEPS:
             return f"no end within {plural(self.seen, 'attempt')}"
         if self.most is None:
@@ -72,7 +71,6 @@ class Bounds:
         return "; no proved end" if self.run is None or self.run > LAST_MOMENT else f"; ends within {rounded(self.run)}"
 
     def line(self):
-        """All of it in one line."""
         if self.least == 1 and self.most is None and self.longest > LAST_MOMENT:
             return "nothing is proved"
         return f"{self.attempts()}; {self.waits()}{self.end()}"

@@ -137,7 +137,6 @@ class Reader:
             raise Refused(f"{path}:1: the log has no attempt{where}")
 
     def refused(self, row, column, what):
-        """The error of a cell."""
         return Refused(f"{self.path}:{self.word}{row}: column {shown(column.name)}: {what}")
 
     def _column(self, chosen, known, option=None, but=()):

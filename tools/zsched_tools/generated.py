@@ -61,7 +61,6 @@ def _words(parser):
 
 
 def bash(parser):
-    """Completions for bash."""
     name, words = "_" + parser.prog.replace("-", "_"), " ".join(word for word, _ in _words(parser))
     yield from [f"# Completions of {parser.prog} for bash.", f"{name}() {{",
                 "  local word=${COMP_WORDS[COMP_CWORD]} before=${COMP_WORDS[COMP_CWORD - 1]}",
@@ -105,7 +104,6 @@ def _zsh_specs(parser):
 
 
 def zsh(parser):
-    """Completions for zsh."""
     yield f"#compdef {parser.prog}"
     words = _words(parser)
     if not words:
@@ -121,7 +119,6 @@ def zsh(parser):
 
 
 def fish(parser):
-    """Completions for fish."""
     head, words = f"complete -c {parser.prog}", _words(parser)
     yield from [f"# Completions of {parser.prog} for fish.", f"{head} -f"]
     for word, help in words:
@@ -163,7 +160,6 @@ def _listed(parser):
 
 
 def man(parser):
-    """The manual page."""
     about, formatter = parser.description or "", _formatter(parser)
     first = re.match(r"(.*?)(?:\.(?:\s|$)|:\n)", about, re.DOTALL)[1].replace("\n", " ")
     rest, *status = re.split(r"^exit status[:,] ", parser.epilog or "", flags=re.MULTILINE | re.IGNORECASE)

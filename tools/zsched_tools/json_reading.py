@@ -178,7 +178,6 @@ def _comment(text, at):
 
 
 def no_value(reading, at):
-    """No value begins here."""
     text, mark = reading.text, reading.text[at:at + 1]
     if not mark:
         return _early_end(reading, at)
@@ -261,7 +260,6 @@ def _bad_string(text, at):
 
 
 def no_key(reading, at):
-    """No key in quotes begins here."""
     text, mark = reading.text, reading.text[at:at + 1]
     if not mark:
         return _early_end(reading, at)

@@ -285,7 +285,6 @@ def draw_waits(layout, waits, middle):
 
 
 def draw_names(layout, rows):
-    """The jobs' names and modes."""
     yield rectangle(0, layout.top, layout.left - 2, layout.bottom, "page")
     yield from draw_bands(layout, len(rows), layout.left - 2)
     for number, row in enumerate(rows):

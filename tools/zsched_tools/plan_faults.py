@@ -332,7 +332,6 @@ def name(_jobs, job):
 
 
 def same_name(jobs, job):
-    """No earlier job has the name."""
     node, text = job.get("name"), job.document.text
     said = node.string()
     # A job whose text has neither the name nor an escape isn't parsed.
@@ -344,7 +343,6 @@ def same_name(jobs, job):
 
 
 def script_fault(job, cause):
-    """The cause of a script's fault."""
     script = job.get("script")
     if cause == "empty":
         return over(script, "the script is empty", f"write an entry for each attempt, as [ {_ENTRY} ]")

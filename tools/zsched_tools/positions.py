@@ -35,7 +35,6 @@ class Document:
         self.text = text
 
     def root(self):
-        """The value of the whole text."""
         return Node(self, self.skip(0))
 
     def skip(self, at):
@@ -61,12 +60,10 @@ class Node:
 
     @property
     def end(self):
-        """The place after the value."""
         return self.document.end_of(self.at)
 
     @property
     def source(self):
-        """The value as it is written."""
         return self.document.text[self.at:self.end]
 
     def string(self):

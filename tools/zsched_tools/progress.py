@@ -35,7 +35,6 @@ class Progress:
             write(f"{self.tool}: {self.text_of(self.done)}")
 
     def close(self):
-        """Removes the line."""
         if self.is_shown:
             write("")
             self.is_shown = False

@@ -49,7 +49,6 @@ class Tried:
     longest: int
 
     def line(self):
-        """The result in one line."""
         ending = f"{self.how} {self.result}".strip()
         return (f"{ending} after {plural(self.attempts, 'attempt')}, {duration(self.at)} "
                 f"(waited {duration(self.waited)}, longest wait {duration(self.longest)})")

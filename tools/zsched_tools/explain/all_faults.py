@@ -32,7 +32,6 @@ class Mended:
         self.pieces = sorted([it for it in self.pieces if it[1] <= begin or it[0] >= end] + [(begin, end, text)])
 
     def made(self):
-        """The text with all pieces replaced."""
         parts, here = [], 0
         for begin, end, text in self.pieces:
             parts += [self.text[here:begin], text]

@@ -42,7 +42,6 @@ class Words(argparse.ArgumentParser):
 
 
 def words():
-    """The parser of the arguments."""
     found = Words(prog="zsched-explain", description=ABOUT, epilog=STATUSES,
                   formatter_class=argparse.RawDescriptionHelpFormatter)
     found.add_argument("plan", nargs="?", default="-", metavar="PLAN.json",
@@ -111,7 +110,6 @@ class Look(threading.Thread):
         self.plan = None
 
     def run(self):
-        """Scans the plan."""
         from zsched_tools import faults
         self.plan = faults.Plan(self.data)
         self.plan.look()

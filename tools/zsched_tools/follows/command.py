@@ -71,7 +71,6 @@ class Difference(NamedTuple):
     why: str
 
     def line(self):
-        """The difference in words."""
         if self.kind == "extra":
             what = f"extra, at {duration(self.found_ms)}: {self.why}"
         elif self.kind == "missing":
@@ -99,7 +98,6 @@ class Compared(NamedTuple):
         return json.dumps({"requests": self.requests, "attempts": self.attempts, **self.counts(), "differences": found})
 
     def summary(self):
-        """The counts in a line."""
         head = f"{plural(self.requests, 'request')}, {plural(self.attempts, 'attempt')}"
         if not self.differences:
             return f"{head}: all follow the policy"
@@ -252,7 +250,6 @@ def _differences(name, found, mode, wait_after, tolerance, ends):
 
 
 def work(given):
-    """Runs the command with its arguments; returns the exit status."""
     given.zsched = program.find(given.zsched)
     name = "standard input" if given.log == "-" else given.log
     data = command.read(given.log)
@@ -277,7 +274,6 @@ def work(given):
 
 
 def arguments():
-    """The parser of the command line."""
     parser = command.parser(TOOL, DESCRIPTION, EPILOG)
     parser.add_argument("log", metavar="LOG", help="the log's file; - for standard input")
     parser.add_argument("--schedule", metavar="S", required=True, help="the policy: a schedule")

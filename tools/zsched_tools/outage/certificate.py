@@ -28,7 +28,6 @@ class Client:
 
 
 def clients_in(report):
-    """The clients of a report's bytes."""
     for block in blocks_of(report):
         end, attempts = ending_in(block), attempts_in(block)
         if end is None:

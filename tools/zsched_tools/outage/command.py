@@ -137,7 +137,6 @@ def _joined(reports):
 
 
 def write_files(folder, name, horizon, found):
-    """Writes a policy's files."""
     jobs, plans, most, reports, figures = found
     if len(plans) == 1:
         command.write(folder / f"{name}.json", plans[0])
@@ -215,7 +214,6 @@ def _exceeded(given, figures):
 
 
 def work(given):
-    """Runs the command with its arguments; returns the exit status."""
     name = "standard input" if given.scenario == "-" else given.scenario
     data = command.read(given.scenario)
     for path in filter(None, [given.folder, given.svg, given.html]):
@@ -261,7 +259,6 @@ def _peak(word):
 
 
 def arguments():
-    """The parser of the command line."""
     parser = command.parser(TOOL, DESCRIPTION, EPILOG)
     parser.add_argument("scenario", metavar="SCENARIO.json", help="the scenario's file; - for standard input")
     parser.add_argument("-o", dest="folder", metavar="FOLDER",

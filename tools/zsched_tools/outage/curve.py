@@ -37,7 +37,6 @@ class Curve:
             yield second, begun, ok, err, running
 
     def csv(self):
-        """The rows as CSV."""
         return "".join(f"{line}\n" for line in [CSV_HEAD, *(",".join(map(str, row)) for row in self.rows())])
 
     def peak(self, span, since=0):

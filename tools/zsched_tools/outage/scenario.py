@@ -175,15 +175,18 @@ def _thousandths(node, what):
     return int(fractions.Fraction(node.source) * THOUSAND)
 
 
+def _if(parts, key, read, what, default, *more):
+    """The value of a key as `read` reads it, or a default."""
+    return read(parts[key], what, *more) if key in parts else default
+
+
 class _Reading:
     """One pass over the parts of a scenario."""
 
     def __init__(self, root):
         known = ["horizon", "seed", "clients", "windows", "outcomes", "budget", "policies"]
         parts = _members(root, "the scenario", known, ["horizon", "clients", "policies"])
-        self.scenario = Scenario(horizon=_time(parts["horizon"], "the horizon"))
-        if "seed" in parts:
-            self.scenario.seed = _whole(parts["seed"], "the seed")
+        self.scenario = Scenario(_time(parts["horizon"], "the horizon"), _if(parts, "seed", _whole, "the seed", 0))
         self._clients(parts["clients"])
         self._outcomes(parts.get("outcomes"))
         self._windows(parts.get("windows"))
@@ -203,7 +206,8 @@ class _Reading:
             return
         parts = _members(node, "clients", ["number", "within", "per_second", "start"], ["number"])
         number = _whole(parts["number"], "the number of clients", 1, MOST_CLIENTS)
-        start = _time(parts["start"], "the start") if "start" in parts else 0
+        start, time = _if(parts, "start", _time, "the start", 0), _if(
+            parts, "within", _time, "the time within which clients start", 0)
         if "within" in parts and "per_second" in parts:
             _refuse(parts["per_second"], 'clients start "within" a time or at a rate "per_second", not both')
         if "per_second" in parts:
@@ -211,7 +215,6 @@ class _Reading:
             self.scenario.starts = [start + THOUSAND * it // rate for it in range(number)]
             self.scenario.coming = f"{rate:,} a second"
         else:
-            time = _time(parts["within"], "the time within which clients start") if "within" in parts else 0
             self.scenario.starts = [start + time * it // number for it in range(number)]
             self.scenario.coming = f"within {duration(time)}" if time else "all at once"
 
@@ -244,7 +247,7 @@ class _Reading:
         for item in node.items() if node is not None else ():
             parts = _members(item, "a window", ["from", "to", "is", "capacity", "per"], ["from"])
             begin = _time(parts["from"], "from")
-            end = _time(parts["to"], "to") if "to" in parts else LAST_MOMENT + 1
+            end = _if(parts, "to", _time, "to", LAST_MOMENT + 1)
             if begin < last:
                 _refuse(parts["from"], "this window begins before the one before it ends",
                         "write the windows in order, and apart from one another")
@@ -258,12 +261,12 @@ class _Reading:
     @staticmethod
     def _window(parts, begin, end):
         state = STATES.index(_word(parts["is"], '"is"', STATES[:FULL])) if "is" in parts else UP
-        capacity = _whole(parts["capacity"], "the capacity", 1, MOST_CLIENTS) if "capacity" in parts else None
+        capacity = _if(parts, "capacity", _whole, "the capacity", None, 1, MOST_CLIENTS)
         if capacity is not None and state == DOWN:
             _refuse(parts["capacity"], "a service that is down has no capacity", 'remove "capacity", or "is"')
         if "per" in parts and capacity is None:
             _refuse(parts["per"], '"per" is the time of a "capacity"', 'write "capacity": 200, "per": "100ms"')
-        per = _time(parts["per"], "per") if "per" in parts else THOUSAND
+        per = _if(parts, "per", _time, "per", THOUSAND)
         if not per:
             _refuse(parts["per"], '"per" is 0', 'write "100ms", or "1s"')
         return Window(begin, end, state, capacity, per)
@@ -272,15 +275,13 @@ class _Reading:
         given = _members(node, "the budget", None, ["like"])
         like = _word(given["like"], '"like"', list(BUDGETS))
         parts = _members(node, f'a budget like "{like}"', BUDGETS[like], ["tokens"])
-        default = 100 if like == "grpc" else THOUSAND
-        code = _whole(parts["err"], "err") if "err" in parts else 0
+        code = _if(parts, "err", _whole, "err", 0)
         if any(code == outcome.value for outcome in self.scenario.outcomes if not outcome.is_ok):
             _refuse(parts.get("err", node), f"{code} is an error code of the service too",
                     'write "err": with another code, for clients whose retries the budget rejects')
-        retry = _thousandths(parts["retry"], "retry") if "retry" in parts else 5 * THOUSAND
-        self.scenario.budget = Budget(like, _thousandths(parts["tokens"], "tokens"),
-                                      _thousandths(parts["ok"], "ok") if "ok" in parts else default,
-                                      retry if like == "aws" else THOUSAND, code)
+        retry = _if(parts, "retry", _thousandths, "retry", (5 if like == "aws" else 1) * THOUSAND)
+        ok = _if(parts, "ok", _thousandths, "ok", 100 if like == "grpc" else THOUSAND)
+        self.scenario.budget = Budget(like, _thousandths(parts["tokens"], "tokens"), ok, retry, code)
 
     def _policies(self, node):
         parts = _members(node, "policies", None, [])

@@ -25,7 +25,6 @@ class Unsettled(Exception):
 
 
 def name_of(client):
-    """The name of a client's job."""
     return f"c{client}"
 
 

@@ -36,7 +36,6 @@ class Ending(NamedTuple):
     attempts: int
 
     def words(self):
-        """The ending in words."""
         value = "" if self.value is None else f" {self.value}"
         return f"{self.how}{value} at {self.at} after {self.attempts} attempts"
 

@@ -82,7 +82,6 @@ class Request(NamedTuple):
         return before[-1] if before and not tells_state(before[-1]) else None
 
     def job(self, schedule, mode, script):
-        """The job, as JSON."""
         entries = ",".join(outcome.entry() for outcome in script)
         return job_text(self.name, schedule, entries, mode, self.start or None)
 

@@ -28,7 +28,6 @@ def _scalar(data, at, text):
 
 
 def read_yaml(text):
-    """The value of a YAML document."""
     yaml, loader = yaml_module(), None
     try:
         loader = yaml.SafeLoader(text)
@@ -91,7 +90,6 @@ class _Yaml:
 
 
 def read_toml(text):
-    """The value of a TOML document."""
     try:
         tree = tomllib.loads(text)
     except tomllib.TOMLDecodeError as fault:

@@ -141,7 +141,6 @@ class Server(http.server.ThreadingHTTPServer):
             print(f"zsched-play: a request failed: {fault!r}", file=sys.stderr)
 
     def url(self):
-        """The address of the page."""
         return f"http://{ADDRESS}:{self.server_port}/"
 
 
@@ -192,7 +191,6 @@ class Handler(http.server.BaseHTTPRequestHandler):
     do_HEAD = do_POST = do_PUT = do_DELETE = do_PATCH = do_OPTIONS = do_TRACE = do_CONNECT = do_GET
 
     def give_answer(self):
-        """Sends the response to a plan."""
         plan = self.rfile.read(int(self.headers["Content-Length"]))
         said = re.fullmatch(r"attempt=([0-9]{1,15})\.\.([0-9]{1,15})", self.path.partition("?")[2])
         attempt = said and tuple(map(int, said.groups()))
@@ -200,7 +198,6 @@ class Handler(http.server.BaseHTTPRequestHandler):
         self.give(200, "application/json", json.dumps(found).encode())
 
     def give(self, status, kind, body):
-        """Sends a response."""
         self.send_response(status)
         self.send_header("Content-Type", kind)
         self.send_header("Content-Length", str(len(body)))
@@ -228,12 +225,10 @@ class Handler(http.server.BaseHTTPRequestHandler):
 
 
 def stop(number, frame):
-    """Ends the server as Ctrl-C does."""
     raise KeyboardInterrupt
 
 
 def serve(given):
-    """Serves the page until Ctrl-C."""
     zsched, bounds = program.find(given.zsched), program.find_bounds(given.bounds)
     try:
         server = Server(given.port, zsched, SECONDS, bounds)
@@ -250,7 +245,6 @@ def serve(given):
 
 
 def arguments():
-    """The parser of the command line."""
     words = argparse.ArgumentParser(
         prog="zsched-play", description=__doc__,
         epilog="Ctrl-C ends it, with status 0. Status 2: a wrong argument, no program, or a port that isn't free.")

@@ -177,7 +177,6 @@ def policies_of(path):
 
 
 def names_of(policies):
-    """The names of policies in words."""
     return f"it has {listed([it.name for it in policies[:20]])}" if policies else f"{TOOL} import --help lists the formats"
 
 

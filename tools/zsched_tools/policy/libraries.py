@@ -31,7 +31,6 @@ COUNT = ("maxattempts", "attempts", "maxretries")
 
 
 def find(document):
-    """The policies of a document."""
     root = document
     if root.is_table():
         root = unfolded([(key.split(".") if key.startswith(("resilience4j.", "spring.")) else [key], node)

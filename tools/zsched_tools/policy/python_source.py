@@ -23,7 +23,6 @@ _LENGTHS = {"days": 86_400, "hours": 3600, "minutes": 60, "seconds": 1, "millise
 
 
 def find(text):
-    """The policies of a Python source."""
     try:
         tree = ast.parse(text)
     except SyntaxError as fault:
@@ -119,7 +118,6 @@ class _Source:
         return {**dict(zip(names, call.args)), **{it.arg: it.value for it in call.keywords}}
 
     def only(self, call, name):
-        """The only argument of a call."""
         given = self.arguments(call, name)
         if list(given) != [name]:
             raise Wrong(call.lineno, f"{self.shown(call)} needs {name}, and nothing else")
@@ -133,7 +131,6 @@ class _Tenacity:
         self.source, self.node, self.left_out, self.jitters = source, node, [], []
 
     def policy(self):
-        """The Policy."""
         names = ("sleep", "stop", "wait", "retry", "before", "after", "before_sleep", "reraise")
         given = self.source.arguments(self.node, *names) if isinstance(self.node, ast.Call) else {}
         waits = self.waits(given.pop("wait")) if "wait" in given else constant(0)
@@ -145,7 +142,6 @@ class _Tenacity:
         return Policy(waits, retries, [*given, *self.left_out], None, on, self.jitter(), limit)
 
     def jitter(self):
-        """The range of the waits."""
         if len(self.jitters) < 2:
             return self.jitters[0] if self.jitters else None
         if all(it["kind"] == "added" for it in self.jitters):

@@ -36,7 +36,6 @@ class Node(NamedTuple):
     size: int = 1
 
     def is_table(self):
-        """Whether it is a dict."""
         return isinstance(self.data, dict)
 
 
@@ -66,7 +65,6 @@ def _put(table, key, node, line):
 
 
 def read_json(text):
-    """The tree of a JSON document."""
     try:
         json.loads(text)
     except json.JSONDecodeError as fault:

@@ -35,7 +35,6 @@ def tables(node, path=()):
 
 
 def find(root):
-    """The policies of a document."""
     for path in tables(root, (("", root),)):
         node, keys, key = path[-1][1], keys_of(path[-1][1]), plain(str(path[-1][0]))
         around = path[-2][1] if len(path) > 1 else Node({}, 1)

@@ -30,7 +30,6 @@ def nearest(wait):
 
 
 def constant(wait):
-    """Equal waits."""
     whole = nearest(wait)
     return Waits(lambda _: whole, 1, lambda _: f"spaced({whole})" if whole else "forever")
 

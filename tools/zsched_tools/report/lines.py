@@ -14,7 +14,6 @@ _ordered = json.JSONEncoder(sort_keys=True).encode
 
 
 def item_of(job, record):
-    """The object of a record."""
     if isinstance(record, Attempt):
         return {"type": "attempt", "job": job.name, "mode": job.mode, "attempt": record.number, "begin": record.begin,
                 "end": record.end, "outcome": record.outcome, "value": record.value, "waited": record.waited,

@@ -33,7 +33,6 @@ class Attempts:
         self.begin = self.last = None
 
     def add(self, attempt):
-        """Adds the next attempt."""
         self.count += 1
         self.outcomes[attempt.outcome] += 1
         if self.last is None:
@@ -44,7 +43,6 @@ class Attempts:
         self.last = attempt
 
     def close(self, ending):
-        """The job ends."""
         if self.last is not None and ending.how == "unfinished":
             if self.last.end is None:
                 self.busy += ending.at - self.last.begin
@@ -68,7 +66,6 @@ class Summary:
         self.open = Attempts()
 
     def add(self, job, record):
-        """Adds a record of a job, or the total."""
         if isinstance(record, Attempt):
             self.open.add(record)
             self.changes[record.begin] += 1
@@ -96,7 +93,6 @@ class Summary:
                 duration(attempts.waited), duration(attempts.longest)]))
 
     def jobs(self):
-        """The number of jobs."""
         return sum(self.endings.values())
 
     def most(self):
@@ -107,7 +103,6 @@ class Summary:
         return most, moments[running.index(most)] if most else 0
 
     def table(self):
-        """The lines of the table."""
         return table([HEAD, *(cells for _, cells in sorted(self.rows, key=lambda row: row[0]))])
 
 

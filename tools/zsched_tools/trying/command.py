@@ -261,7 +261,6 @@ def _check_requirements(given):
 
 
 def work(given):
-    """Runs the command with its arguments; returns the exit status."""
     _check_requirements(given)
     found = tried(TOOL, given, given.plan)
     if found is None:
@@ -290,7 +289,6 @@ def add_attempts(parser):
 
 
 def arguments():
-    """The parser of the command line."""
     parser = command.parser(TOOL, DESCRIPTION, EPILOG)
     parser.add_argument("policies", metavar="POLICY", nargs="+", help="a schedule")
     add_attempts(parser)
