@@ -35,6 +35,8 @@ _AFTER = re.compile(rf" *(?<![A-Za-z])jitter +(full|equal|([0-9]{{1,3}}(?:\.[0-9
 _LIMIT = r"elapsed\.whileOutput\(<=? *[0-9]+ *\)"
 _LIMITED = re.compile(rf"\( *(.*\S) *&& *{_LIMIT} *\)")
 _OF_INPUT = re.compile(r"(.*)\.whileInput\([^()]*\)")
+# Waits that are all equal.
+_EQUAL = re.compile(r"\(*spaced\(([0-9]+)\)(?: && (?:recurs\([0-9]+\)|elapsed\.whileOutput\(< [0-9]+\))\))*")
 _UNSTEADY = {"elapsed", "fixed", "windowed", "identity", "whileInput"}
 _RANDOM_WAIT = re.compile(r"(?:spaced|linear|fibonacci|exponential)\( *\Z")
 
@@ -292,6 +294,8 @@ def _of_file(text, called):
         least = (1 - percent) / (1 + percent)
     elif jitter.get("kind") == "added" and percent:
         least = 1 / (1 + percent)
+    elif jitter.get("kind") == "added" and (only := _EQUAL.fullmatch(schedule)):
+        least = 1 - Fraction(jitter["up_to_ms"], int(only[1]))
     elif jitter:
         left_out = [*left_out, f"{jitter['kind']} jitter: {GREATEST_WAITS}"]
     schedule += "" if least is None else f" jitter {least}..1"

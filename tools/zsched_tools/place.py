@@ -1,4 +1,5 @@
 """A fault of a text as lines: its place, the cause, the line with a caret below it, and the help."""
+import sys
 import unicodedata
 from typing import NamedTuple
 
@@ -47,6 +48,11 @@ def place_lines(place, text, cause, paint):
     yield f"{gutter} | {paint('bad', mark)}".rstrip()
     if cause.help:
         yield f"{gutter} = {paint('help', 'help')}: {cause.help}"
+
+
+def tell(place, text, cause, paint):
+    """Shows a cause in a text on standard error."""
+    print(*place_lines(place, text, cause, paint), sep="\n", file=sys.stderr)
 
 
 def told(name, text, cause, job=None):

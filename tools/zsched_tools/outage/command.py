@@ -12,7 +12,7 @@ from zsched_tools.outage.curve import Figures, headline, policy_lines, table, to
 from zsched_tools.outage.panels import curve_page, draw_curves
 from zsched_tools.outage.scenario import DOWN, in_text, read_scenario
 from zsched_tools.outage.search import Search, Unsettled, name_of, schedules_of
-from zsched_tools.place import FaultAt, in_file, place_lines
+from zsched_tools.place import FaultAt, in_file, tell
 from zsched_tools.plan.split import write_parts
 from zsched_tools.program import MOST_JOBS, cut_plans
 from zsched_tools.progress import Now
@@ -227,7 +227,9 @@ def work(given):
         _check_policies(scenario, zsched)
         figures = _all(given, scenario, zsched)
     except FaultAt as fault:
-        return _wrong(name, data.decode(errors="replace"), fault.cause, Paint(given.color, sys.stderr))
+        text = data.decode(errors="replace")
+        tell(f"{TOOL}: {in_file(name, text, fault.cause)}", text, fault.cause, Paint(given.color, sys.stderr))
+        return REFUSED
     except (Unsettled, Uncertified) as failed:
         print(f"{TOOL}: {failed}", file=sys.stderr)
         return command.NO
@@ -237,13 +239,6 @@ def work(given):
     for line in exceeded:
         print(line, file=sys.stderr)
     return command.NO if exceeded else 0
-
-
-def _wrong(name, text, cause, paint):
-    """Shows a fault of a scenario; returns the status."""
-    for line in place_lines(f"{TOOL}: {in_file(name, text, cause)}", text, cause, paint):
-        print(line, file=sys.stderr)
-    return REFUSED
 
 
 _count = command.number(0, 10**15 - 1, '"{}" is not a whole number')

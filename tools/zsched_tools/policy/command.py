@@ -187,15 +187,16 @@ def line_of_file(path, name):
     if len(chosen) != 1:
         what = "more than one policy, write @FILE#NAME" if chosen else f"no policy {shown(name or '')}".rstrip()
         raise Refused(f"{path}: {what}; {names_of(policies)}")
+    return _line_at(path, chosen[0])
+
+
+def _line_at(path, found):
+    """The line of a policy of a file, or its error."""
     try:
-        return line_of(chosen[0])
+        return line_of(found)
     except (Wrong, ValueError) as wrong:
-        line, what = wrong.args if isinstance(wrong, Wrong) else (chosen[0].line, wrong)
-        raise Refused(f"{path}:{line}: {chosen[0].name}: {what}") from None
-
-
-def _whole(value):
-    return None if value is None else max(1, int(value))
+        line, what = wrong.args if isinstance(wrong, Wrong) else (found.line, wrong)
+        raise Refused(f"{path}:{line}: {found.name}: {what}") from None
 
 
 def line_of(found):
@@ -203,8 +204,8 @@ def line_of(found):
     policy = found.read()
     schedule, left_out = spelled(policy.waits, policy.retries, policy.limit)
     return {"name": found.name, "format": found.form, "schedule": schedule,
-            "attempt_timeout_ms": _whole(policy.attempt_timeout), "retries_on": list(policy.retries_on),
-            "jitter": policy.jitter, "left_out": [*policy.left_out, *left_out]}
+            "attempt_timeout_ms": None if policy.attempt_timeout is None else max(1, int(policy.attempt_timeout)),
+            "retries_on": list(policy.retries_on), "jitter": policy.jitter, "left_out": [*policy.left_out, *left_out]}
 
 
 def _import(given):
@@ -218,12 +219,11 @@ def _import(given):
     status = 0
     for found in chosen:
         try:
-            line = line_of(found)
+            line = _line_at(given.file, found)
             print(line["schedule"] if given.plain else json.dumps(line, ensure_ascii=False, separators=(",", ":")))
-        except (Wrong, ValueError) as wrong:
-            line, what = wrong.args if isinstance(wrong, Wrong) else (found.line, wrong)
+        except Refused as refused:
             sys.stdout.flush()
-            print(f"{TOOL}: {given.file}:{line}: {found.name}: {what}", file=sys.stderr)
+            print(f"{TOOL}: {refused}", file=sys.stderr)
             status = command.REFUSED
     return status
 

@@ -9,7 +9,7 @@ from zsched_tools import bounding, command, plan_size, program, starting
 from zsched_tools.command import REFUSED, Paint, Refused
 from zsched_tools.drawn import Policy
 from zsched_tools.durations import duration_argument
-from zsched_tools.place import FaultAt, place_lines
+from zsched_tools.place import FaultAt, tell
 from zsched_tools.program import LAST_MOMENT
 from zsched_tools.progress import Now
 from zsched_tools.schedule_rules import any_cause
@@ -172,8 +172,7 @@ def _wrong(tool, given, cause):
     text = given.policies[given.at]
     which = f"policy {given.at + 1}, " if len(given.policies) > 1 else ""
     place = f"{tool}: {which}byte {len(text[:cause.at].encode())}"
-    for shown in place_lines(place, text, cause, Paint(given.color, sys.stderr)):
-        print(shown, file=sys.stderr)
+    tell(place, text, cause, Paint(given.color, sys.stderr))
 
 
 def of_all(given, *policies):
