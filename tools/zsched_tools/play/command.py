@@ -154,28 +154,22 @@ class Handler(http.server.BaseHTTPRequestHandler):
 
     def refusal(self):
         """The status and the text if the request is rejected, else None."""
-        methods = PATHS.get(self.path.split("?")[0])
+        methods, is_post = PATHS.get(self.path.split("?")[0]), self.command == "POST"
         host, origin = self.headers.get_all("Host", []), self.headers.get("Origin")
-        if len(host) != 1 or host[0].lower() not in self.server.hosts:
-            return 421, "the Host of this request isn't this server's"
-        if methods is None:
-            return 404, "not found; the page is at /"
-        if self.command not in methods:
-            return 405, f"this method isn't allowed; allowed: {' and '.join(methods)}"
-        if origin is not None and origin.lower().removeprefix("http://") not in self.server.hosts:
-            return 403, "requests from pages of another origin aren't allowed"
-        return self.refusal_of_body() if self.command == "POST" else None
-
-    def refusal_of_body(self):
-        """The same for a plan's length."""
         size = self.headers.get("Content-Length")
-        if size is None or "Transfer-Encoding" in self.headers:
-            return 411, "a plan needs its length in Content-Length"
-        if not re.fullmatch("[0-9]{1,18}", size):
-            return 400, "the length of the plan is not a number"
-        if int(size) > LONGEST_BODY:
-            return 413, f"a plan is at most {LONGEST_BODY} bytes long"
-        return None
+        is_number = re.fullmatch("[0-9]{1,18}", size or "")
+        return next((said for is_wrong, *said in [
+            (len(host) != 1 or host[0].lower() not in self.server.hosts, 421,
+             "the Host of this request isn't this server's"),
+            (methods is None, 404, "not found; the page is at /"),
+            (self.command not in (methods or ()), 405,
+             f"this method isn't allowed; allowed: {' and '.join(methods or ())}"),
+            (origin is not None and origin.lower().removeprefix("http://") not in self.server.hosts, 403,
+             "requests from pages of another origin aren't allowed"),
+            (is_post and (size is None or "Transfer-Encoding" in self.headers), 411, "a plan needs its length in Content-Length"),
+            (is_post and not is_number, 400, "the length of the plan is not a number"),
+            (is_post and is_number and int(size) > LONGEST_BODY, 413, f"a plan is at most {LONGEST_BODY} bytes long"),
+        ] if is_wrong), None)
 
     def do_GET(self):
         """Handles every method: sends the page, a report or an error. The body of a rejected request is read and dropped."""
