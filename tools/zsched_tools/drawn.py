@@ -1,8 +1,8 @@
 """Policies in the words of the tools: schedules with sugar, random numbers, names, and policies of config files.
 
 docs/FORMATS.md has all forms. A schedule has no random numbers, so each draw is a schedule in which its numbers are
-written. The waits of `S jitter ..` come from the program, and must depend on nothing but their number. The first 239 are
-drawn one by one, and all later ones, which must be equal, with one draw."""
+written. The waits of `S jitter ..` come from the program, and must depend on nothing but their number. The first 239
+are drawn one by one, and all later ones, which must be equal, with one draw."""
 import functools
 import itertools
 import re
@@ -42,8 +42,8 @@ _RANDOM_WAIT = re.compile(r"(?:spaced|linear|fibonacci|exponential)\( *\Z")
 
 
 class Piece(NamedTuple):
-    """A piece of a policy's text. `spelled` is its text without sugar. `draw` returns that of a draw: it gets a source of
-    random numbers, or LOW or HIGH for the least or the greatest draw. It is None if nothing is random."""
+    """A piece of a policy's text. `spelled` is its text without sugar. `draw` returns that of a draw: it gets a source
+    of random numbers, or LOW or HIGH for the least or the greatest draw. It is None if nothing is random."""
     at: int
     size: int
     spelled: str
@@ -64,8 +64,9 @@ def drawn(random, least, most):
 
 
 class Policy:
-    """A policy's text, read once and drawn any number of times. FaultAt has a fault with its place in the text. `zsched`
-    is the program's path (None: the one that is found). `timeout` is the limit of an attempt that its config has."""
+    """A policy's text, read once and drawn any number of times. FaultAt has a fault with its place in the text.
+    `zsched` is the program's path (None: the one that is found). `timeout` is the limit of an attempt that its config
+    has."""
 
     def __init__(self, text, zsched=None):
         self.text, self.zsched, self.left_out, self.timeout = text, zsched, [], None
@@ -116,8 +117,8 @@ class Policy:
         return "".join(self.texts(random))
 
     def show(self, tool, is_limited=False):
-        """Writes the schedule that the text becomes, and what that leaves out, to standard error. `is_limited` says that
-        the config's limit of an attempt counts."""
+        """Writes the schedule that the text becomes, and what that leaves out, to standard error. `is_limited` says
+        that the config's limit of an attempt counts."""
         lines = [f"is {self.spelled}"] if self.spelled != self.text[self.begin:] else []
         if self.timeout:
             limit = f"the limit of an attempt, {duration(self.timeout)}"
@@ -149,8 +150,8 @@ class Policy:
             raise OSError(f"{zsched}: {line}")
 
     def limits(self):
-        """The schedules whose bounds together hold for every draw: of the greatest waits, of the least waits, and of the
-        greatest without a limit of time. None if nothing is known to hold.
+        """The schedules whose bounds together hold for every draw: of the greatest waits, of the least waits, and of
+        the greatest without a limit of time. None if nothing is known to hold.
 
         All parts but a limit of time evaluate the same steps whatever they wait, and a longer wait of a part makes no
         wait of the whole shorter. A limit of time that all parts are under ends no later if the waits are longer."""
@@ -307,7 +308,8 @@ def waits_of(zsched, schedule):
     """The first waits of a schedule by the program, at most MOST_WAITS, and whether it ends after them. FaultAt has a
     fault of the schedule."""
     script = [(1, "err", 0)] * MOST_WAITS + [(1, "ok", 0)]
-    status, report, errors = program.report_of(zsched, plan_of(LAST_MOMENT, "retry", [("job", schedule, script)]).encode(), 1)
+    plan = plan_of(LAST_MOMENT, "retry", [("job", schedule, script)])
+    status, report, errors = program.report_of(zsched, plan.encode(), 1)
     line = program.failure(status, errors)
     if status == REFUSED:
         raise FaultAt(any_cause(schedule, line.partition("schedule: ")[2]))
@@ -352,7 +354,8 @@ def _one_after_another(terms):
 
 
 def check_schedule(tool, given):
-    """Reads the schedule of a log's jobs, which may have sugar, and runs the program to check it. Returns the Policy."""
+    """Reads the schedule of a log's jobs, which may have sugar, and runs the program to check it. Returns the
+    Policy."""
     found = program.find(given.zsched)
     try:
         policy = Policy(given.schedule, found)

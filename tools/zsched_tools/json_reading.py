@@ -207,7 +207,8 @@ def _early_end(reading, at):
     if not reading.open:
         return Cause(at, 0, "the plan ends too early")
     mark, line = reading.text[reading.open[-1]], line_of(reading.text, reading.open[-1])
-    return Cause(at, 0, "the plan ends too early", f"{_CLOSING[mark]} is missing: the {mark} of line {line} is still open")
+    help = f"{_CLOSING[mark]} is missing: the {mark} of line {line} is still open"
+    return Cause(at, 0, "the plan ends too early", help)
 
 
 def _missing_value(text, at, mark):

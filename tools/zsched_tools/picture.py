@@ -1,6 +1,6 @@
-"""A report as a picture: jobs from top to bottom, time from left to right. Its shapes are single attempts, blocks of many,
-and the marks of endings. Both shape and colour show an outcome: an attempt that succeeded is tall and round, one that
-failed is low and square."""
+"""A report as a picture: jobs from top to bottom, time from left to right. Its shapes are single attempts, blocks of
+many, and the marks of endings. Both shape and colour show an outcome: an attempt that succeeded is tall and round, one
+that failed is low and square."""
 from dataclasses import dataclass
 
 from zsched_tools import strip
@@ -41,8 +41,8 @@ PATTERNS = ('<pattern id="running" width="6" height="6" patternUnits="userSpaceO
             '<pattern id="many" width="3" height="3" patternUnits="userSpaceOnUse">'
             '<rect class="stripe" width="1" height="3"/></pattern>')
 # In pixels: an attempt of at least the width ALONE has a separate shape, and every shape is at least NARROWEST wide.
-# Narrow attempts that are nearer than NEAR share a block, up to the width BLOCK. A shape is cut for the next one, but not
-# below the width LEAST.
+# Narrow attempts that are nearer than NEAR share a block, up to the width BLOCK. A shape is cut for the next one, but
+# not below the width LEAST.
 ALONE = 4.0
 NARROWEST = 3.0
 NEAR = 1.5
@@ -134,8 +134,8 @@ def draw_shape(shape, middle, height, name):
 
 
 def draw_many(shape, right, top, low, bottom):
-    """A block of many: tall if no attempt failed, low if all failed. In a mixed block the lower part shows the share that
-    failed, the upper part the share that succeeded."""
+    """A block of many: tall if no attempt failed, low if all failed. In a mixed block the lower part shows the share
+    that failed, the upper part the share that succeeded."""
     share = shape.failed / shape.count
     if share == 0:
         yield rectangle(shape.left, top, right, bottom, "ok")
@@ -353,7 +353,8 @@ def legend_entries(layout, rows):
 
 
 def draw(rows, title, view=View(), is_file=True, notes=()):
-    """The picture of some jobs as SVG, in lines: for a file, or inside of a page. The notes are lines below its title."""
+    """The picture of some jobs as SVG, in lines: for a file, or inside of a page. The notes are lines below its
+    title."""
     head = 30 if title else 0
     layout = Layout(rows, head + 18 * len(notes), view)
     entries, height = legend(layout, rows)

@@ -23,7 +23,8 @@ class FaultAt(Exception):
 
 
 def choose(at, *rows):
-    """The cause at a place by the first row that holds, or None. A row is a condition, a size, what is wrong, and a help."""
+    """The cause at a place by the first row that holds, or None. A row is a condition, a size, what is wrong, and a
+    help."""
     return next((Cause(at, *rest) for is_so, *rest in rows if is_so), None)
 
 

@@ -1,5 +1,5 @@
-"""The command zsched-follows: whether a service's attempts, as its log has them, follow a policy, by the decisions of the
-program after each attempt.
+"""The command zsched-follows: whether a service's attempts, as its log has them, follow a policy, by the decisions of
+the program after each attempt.
 
 The help says how jobs show them. A script has at most 1,000 entries, and the last one repeats. The jobs of a longer
 request end with (S && recurs(n)), or have a clock whose moments are the ends of its attempts."""

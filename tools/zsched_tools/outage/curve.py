@@ -155,7 +155,8 @@ def table(scenario, figures):
         head = "  " if number else f"peak after {duration(scenario.back)}, "
         yield row(head + words, lambda it, number=number: _peak(it.peaks_after[number]))
     for number, name in enumerate([*(f"p{percent}" for percent in SHARES), "greatest"]):
-        yield row(("  " if number else "time to success, ") + name, lambda it, number=number: _time(it.shares()[number]))
+        head = "  " if number else "time to success, "
+        yield row(head + name, lambda it, number=number: _time(it.shares()[number]))
     yield row("last success at", lambda it: _time(it.last_success))
     if scenario.back is not None:
         yield row(f"recovery after {duration(scenario.back)}", lambda it: _time(it.recovery))
@@ -173,10 +174,11 @@ def _time(time):
 def headline(scenario):
     """The scenario in one line."""
     clients = f"{len(scenario.starts):,} client{'s' * (len(scenario.starts) != 1)}"
-    windows = [f"{state_words(it)} from {seconds(it.begin)}" + ("" if it.end > LAST_MOMENT else f" to {seconds(it.end)}")
+    windows = [f"{state_words(it)} from {seconds(it.begin)}" + f" to {seconds(it.end)}" * (it.end <= LAST_MOMENT)
                for it in scenario.windows]
     budget = [f"a budget like {scenario.budget.like}'s"] if scenario.budget is not None else []
-    return "; ".join([f"{clients} {scenario.coming}", *windows, *budget, f"until {duration(scenario.horizon)}", f"seed {scenario.seed}"])
+    return "; ".join([f"{clients} {scenario.coming}", *windows, *budget, f"until {duration(scenario.horizon)}",
+                      f"seed {scenario.seed}"])
 
 
 def seconds(moment):

@@ -44,8 +44,8 @@ PAGE_HEAD = """<!doctype html>
 @media(prefers-color-scheme:dark){{:root{{--ink:#e6eaee;--soft:#aab4be;--page:#14181d;--grid:#343c45}}}}
 body{{margin:0 auto;max-width:1240px;padding:12px;font:15px/1.45 system-ui,sans-serif}}
 body{{color:var(--ink);background:var(--page)}}svg{{display:block;width:100%;height:auto}}.wide{{display:none}}
-@media(min-width:800px){{.wide{{display:block}}.narrow{{display:none}}}}.narrow{{max-width:560px}}.table{{overflow-x:auto}}
-table{{border-collapse:collapse;margin:12px 0;font-variant-numeric:tabular-nums}}
+@media(min-width:800px){{.wide{{display:block}}.narrow{{display:none}}}}.narrow{{max-width:560px}}
+.table{{overflow-x:auto}}table{{border-collapse:collapse;margin:12px 0;font-variant-numeric:tabular-nums}}
 th,td{{padding:3px 0 3px 14px;border-bottom:1px solid var(--grid);text-align:right;white-space:nowrap}}
 tr:first-child>th+th{{white-space:normal;overflow-wrap:anywhere;min-width:8ch;vertical-align:bottom}}
 th:first-child{{padding-left:0;text-align:left;font-weight:normal;white-space:pre-wrap}}

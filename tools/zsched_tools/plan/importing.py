@@ -1,9 +1,9 @@
 """zsched-plan from: a log of calls (CSV, JSON) or a policy file (YAML, TOML) as a plan.
 
-The program checks the plan, with the horizon 0, so that nothing is simulated. A fault that it finds is shown at its place
-in the file that was read. From a log it learns when the service failed and when it served, and what it would have
-answered another policy. A moment between two attempts has the state of the one before. All moments are milliseconds from
-the log's first attempt."""
+The program checks the plan, with the horizon 0, so that nothing is simulated. A fault that it finds is shown at its
+place in the file that was read. From a log it learns when the service failed and when it served, and what it would have
+answered another policy. A moment between two attempts has the state of the one before. All moments are milliseconds
+from the log's first attempt."""
 import argparse
 import bisect
 import collections

@@ -166,7 +166,8 @@ class Handler(http.server.BaseHTTPRequestHandler):
              f"this method isn't allowed; allowed: {' and '.join(methods or ())}"),
             (origin is not None and origin.lower().removeprefix("http://") not in self.server.hosts, 403,
              "requests from pages of another origin aren't allowed"),
-            (is_post and (size is None or "Transfer-Encoding" in self.headers), 411, "a plan needs its length in Content-Length"),
+            (is_post and (size is None or "Transfer-Encoding" in self.headers), 411,
+             "a plan needs its length in Content-Length"),
             (is_post and not is_number, 400, "the length of the plan is not a number"),
             (is_post and is_number and int(size) > LONGEST_BODY, 413, f"a plan is at most {LONGEST_BODY} bytes long"),
         ] if is_wrong), None)

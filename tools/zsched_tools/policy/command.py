@@ -68,8 +68,8 @@ every input, which zsched-bounds proves.
   the limits of B for every input: 1 attempt fewer, a wait that is 50 ms longer and 100 ms more of waits in all
 
 A and B are schedules, or texts that zsched-try takes, as @FILE#NAME and `spaced(1000) jitter full`."""
-DIFF_EPILOG = """Exit status: 0 if nothing differs; 1 if something does; 2 if a policy or an option is wrong, or if there is no
-zsched; 3 if a program or writing fails."""
+DIFF_EPILOG = """Exit status: 0 if nothing differs; 1 if something does; 2 if a policy or an option is wrong, or if
+there is no zsched; 3 if a program or writing fails."""
 
 
 def _add_diff(forms):
@@ -91,7 +91,7 @@ def _here(one, other):
     ends = [f"{it.how} {it.result}".strip() for it in (one, other)]
     parts = [_by(one.attempts, other.attempts, "makes {} more", "makes {} fewer", "attempt"),
              _by(one.waited, other.waited, "waits {} more", "waits {} less"),
-             _by(one.longest, other.longest, *(f"has a longest wait that is {{}} {it}" for it in ("longer", "shorter"))),
+             _by(one.longest, other.longest, *map("has a longest wait that is {{}} {}".format, ["longer", "shorter"])),
              _by(one.at, other.at, "ends {} later", "ends {} earlier"),
              f"ends as {ends[1]}" if ends[0] != ends[1] else ""]
     parts = list(filter(None, parts))

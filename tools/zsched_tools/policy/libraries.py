@@ -2,14 +2,15 @@
 
 docs/POLICIES.md has their defaults. No source was at hand: all this is from memory of it and of its documents.
 
-- Resilience4j 2 (IntervalFunction): exponential: each wait is the one before it times the multiplier (1.5), as a double,
-  cut to whole milliseconds; then at most exponentialMaxWaitDuration. Randomized: drawn from wait * (1 - f) to wait * (1 +
-  f), f 0.5, and cut; the cap comes last. A number without a unit is in milliseconds.
+- Resilience4j 2 (IntervalFunction): exponential: each wait is the one before it times the multiplier (1.5), as a
+  double, cut to whole milliseconds; then at most exponentialMaxWaitDuration. Randomized: drawn from wait * (1 - f) to
+  wait * (1 + f), f 0.5, and cut; the cap comes last. A number without a unit is in milliseconds.
 - Spring Retry 2 (ExponentialBackOffPolicy): each wait is the one before it times the multiplier, as a double, cut to
   whole milliseconds, until one is above the cap, which all later ones are. Random: times 1 to the multiplier, at most
   the cap. max-retries (Spring 7) counts retries.
-- Polly 8 (RetryHelper): UseJitter: 25 % above or below; for Exponential decorrelated, by a formula whose greatest values
-  are computed here. 2147483647 retries are no limit. The options of .NET's standard HTTP handler have other defaults."""
+- Polly 8 (RetryHelper): UseJitter: 25 % above or below; for Exponential decorrelated, by a formula whose greatest
+  values are computed here. 2147483647 retries are no limit. The options of .NET's standard HTTP handler have other
+  defaults."""
 import functools
 import itertools
 import math

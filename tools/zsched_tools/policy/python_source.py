@@ -1,9 +1,9 @@
 """Policies in Python source: the decorators and classes of tenacity, and the decorators of backoff.
 
 tenacity 8 (source of `wait.py`, as pip has it): wait_exponential waits multiplier * exp_base^(n-1) s, at least min, at
-most max. backoff 2 (from memory, and docs/POLICIES.md): expo waits factor * base^(n-1) s, at most max_value; fibo 1, 1, 2,
-3, 5 .. s. Both count the first attempt in stop_after_attempt and max_tries, and their limits of time from its begin. The
-source is read by `ast`, and never run."""
+most max. backoff 2 (from memory, and docs/POLICIES.md): expo waits factor * base^(n-1) s, at most max_value; fibo 1, 1,
+2, 3, 5 .. s. Both count the first attempt in stop_after_attempt and max_tries, and their limits of time from its begin.
+The source is read by `ast`, and never run."""
 import ast
 import itertools
 import math
@@ -227,7 +227,8 @@ class _Tenacity:
         if name != "wait_exponential":
             self.jitters.append({"kind": "full"} if not least else {"kind": "full", "from_ms": nearest(least)})
         first = get("multiplier", None)
-        return exponential(default("tenacity-exponential", "multiplier") if first is None else first * 1000, factor, most, least)
+        first = default("tenacity-exponential", "multiplier") if first is None else first * 1000
+        return exponential(first, factor, most, least)
 
 
 def _backoff(source, node):

@@ -3,8 +3,8 @@
 docs/POLICIES.md has their defaults and sources. By their documents unless it says otherwise:
 
 - gRPC (gRFC A6): the n-th wait is drawn 20 % above or below it. A maxAttempts above 5 counts as 5.
-- Envoy: the n-th wait is drawn from 0 to base * (2^n - 1), at most max_interval, which is ten times the base if it isn't
-  set.
+- Envoy: the n-th wait is drawn from 0 to base * (2^n - 1), at most max_interval, which is ten times the base if it
+  isn't set.
 - Temporal: maximumAttempts counts the first attempt, and 0 is no limit.
 - Kubernetes, a Job: from 1.27 or so on the source has a cap of 10 minutes (from memory).
 - AWS SDKs, legacy: drawn from 0 to 2^(n-1) s, 5 attempts. Without retry_mode botocore's mode is legacy."""
@@ -13,8 +13,8 @@ import itertools
 from fractions import Fraction
 
 from zsched_tools.hints import TABLE
-from zsched_tools.policy.fields import (Fields, Found, Policy, default, duration, keys_of, named, number, part, plain, text_of,
-                                        texts, whole)
+from zsched_tools.policy.fields import (Fields, Found, Policy, default, duration, keys_of, named, number, part, plain,
+                                        text_of, texts, whole)
 from zsched_tools.policy.reading import Node, Wrong
 from zsched_tools.policy.spelling import exponential, growing
 
@@ -123,7 +123,8 @@ def envoy_waits(base, most):
 
 def _envoy(policy, route):
     fields = Fields(policy)
-    back_off = Fields(fields.take("retrybackoff") or Node({"base_interval": Node(f"{default('envoy', 'base_interval')}ms", 1)}, 1))
+    usual = Node({"base_interval": Node(f"{default('envoy', 'base_interval')}ms", 1)}, 1)
+    back_off = Fields(fields.take("retrybackoff") or usual)
     base, most = back_off.get(duration, "baseinterval"), back_off.get(duration, "maxinterval")
     if base is None:
         raise Wrong(back_off.line, "retry_back_off has no base_interval")
@@ -168,7 +169,8 @@ def _job(node):
     if spec is None:
         raise Wrong(node.line, "the CronJob has no jobTemplate with a spec")
     fields = Fields(spec)
-    retries, first, most = (default("kubernetes-job", it) for it in ["backoffLimit", "DefaultJobBackOff", "MaxJobBackOff"])
+    names = ["backoffLimit", "DefaultJobBackOff", "MaxJobBackOff"]
+    retries, first, most = (default("kubernetes-job", name) for name in names)
     retries = fields.get(whole, "backofflimit", default=retries)
     pod = part(part(fields.take("template"), "spec"), "restartpolicy")
     left_out = [name for name in fields.left_out() if plain(name) not in (

@@ -156,8 +156,8 @@ def _add_load(one):
 def _add_picture(one):
     one.add_argument("--title", default="", help="the text above the picture")
     one.add_argument("--job", metavar="NAME", action="append", default=[], help="draw this job; may be repeated")
-    one.add_argument("--sort", choices=list(_ROW_ORDERS), help="the order of the rows: by the moment of the end, by name, "
-                     "or the most attempts first; else that of the report")
+    one.add_argument("--sort", choices=list(_ROW_ORDERS), help="the order of the rows: by the moment of the end, by "
+                     "name, or the most attempts first; else that of the report")
     one.add_argument("--from", dest="first", metavar="TIME", type=duration_argument,
                      help="the first moment drawn, as 1.5s")
     one.add_argument("--to", dest="last", metavar="TIME", type=duration_argument, help="the last moment drawn, as 2min")

@@ -26,7 +26,8 @@ h1{{font-size:17px;margin:10px 12px 0}}label{{display:flex;gap:4px;align-items:c
 header{{position:sticky;top:0;background:var(--page);padding:8px 12px 0;z-index:1}}
 header div{{display:flex;flex-wrap:wrap;gap:4px;align-items:center;margin-bottom:6px}}
 button{{font:inherit;min-width:2.5em;padding:2px 8px;color:inherit;background:var(--band)}}
-button{{border:1px solid var(--line);border-radius:5px}}main{{padding:0 12px 12px;overflow-x:auto}}main>svg{{display:block}}
+button{{border:1px solid var(--line);border-radius:5px}}
+main{{padding:0 12px 12px;overflow-x:auto}}main>svg{{display:block}}
 </style>
 """
 TOOLS = """<header>

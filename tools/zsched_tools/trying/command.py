@@ -96,7 +96,8 @@ def _attempt(given, policy):
 
 
 def _entries(given, policy):
-    """The entries of the script of a policy. Without a limit its attempts take as long as those of the other policies."""
+    """The entries of the script of a policy. Without a limit its attempts take as long as those of the other
+    policies."""
     limits = _attempt(given, policy)
     longest = limits[1] if limits else max((it.timeout for it in given.read if it.timeout), default=None)
     for option, entry in [("--fails", given.fails), ("--then", given.then)]:
