@@ -9,7 +9,7 @@ ghost use Rattle.zs_run.specs.declared.plan_fault.PlanFault.TheVariants as fault
 ghost use Rattle.zs_run.specs.Refusals.{Gives, passed_on};
 ghost use Rattle.zs_run.specs.Tree.{has_only_keys};
 ghost use Rattle.zs_run.specs.Shapes.{entry_keys, job_keys};
-ghost use Rattle.zs_run.specs.Names.{KnowsNames, LearnsName};
+ghost use Rattle.zs_run.specs.Names.{KnowsNames};
 ghost use Rattle.zs_run.specs.Jobs.{job_of, jobs_of, mode_of, script_of};
 
 use crate::entry::{beats_of, have_known_keys};
@@ -103,6 +103,19 @@ pub(crate) fn job_of(
     })
 }
 
+// The same of a value that is dropped as soon as it is read.
+fn take_job(
+    alloc: Global,
+    number: u64,
+    names: &BTreeSet<String>,
+    value: Value,
+) -> Result<Job, PlanFault>
+    ensures value { (earlier : List (List ℕ)) → KnowsNames names.now earlier
+        → Gives job_record result (job_of number earlier (view value)) }
+{
+    job_of(alloc, number, names, &value)
+}
+
 /// Adds a job and its name to those before it. Its one fault is `Memory`.
 pub fn add_job(
     alloc: Global,
@@ -110,7 +123,9 @@ pub fn add_job(
     jobs: &mut Vec<Job>,
     job: Job,
 ) -> Result<(), PlanFault>
-    ensures names { OnOk result (LearnsName names.old names.new (job_record job).name) }
+    ensures names { OnOk result
+        ((earlier : List (List ℕ)) → KnowsNames names.old earlier
+        → KnowsNames names.new (earlier ++ (job_record job).name ∷ [])) }
     ensures jobs { OnOk result (jobs.new.items ≡ jobs.old.items ++ job ∷ []) }
     ensures err { IfErr result (λ fault. fault ≡ PlanFault.Memory) }
 {
@@ -119,7 +134,7 @@ pub fn add_job(
     Ok(())
 }
 
-/// The jobs of a list, or the first fault. Each value is dropped once its job is added, while it is
+/// The jobs of a list, or the first fault. Each value is dropped as soon as it is read, while it is
 /// in the cache. The names so far are in a set, so that each is looked up in short time.
 pub(crate) fn jobs_of(alloc: Global, values: Vec<Value>) -> Result<Vec<Job>, PlanFault>
     requires room { length values.items < 2 ^ 64 }
@@ -131,7 +146,7 @@ pub(crate) fn jobs_of(alloc: Global, values: Vec<Value>) -> Result<Vec<Job>, Pla
     let mut names = BTreeSet::new(alloc);
     let mut number = 0;
     for value in values {
-        let job = job_of(alloc, number, &names, &value)?;
+        let job = take_job(alloc, number, &names, value)?;
         add_job(alloc, &mut names, &mut jobs, job)?;
         number += 1;
     }
