@@ -1,5 +1,6 @@
 pub mod Spans
 pub mod Deciding
+pub mod GoingOn
 pub mod Outputs
 pub mod LeafRanges
 pub mod Answering

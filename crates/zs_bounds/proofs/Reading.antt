@@ -8,7 +8,7 @@ use Rattle.zs_term.specs.declared.term.Func.{Func}
 use Rattle.zs_term.specs.declared.term.Func.TheVariants.{First as TakeFirst, Second as TakeSecond, Size, Merge, Const, Add, Mul}
 use Rattle.zs_bounds.specs.declared.span.Span.{Span}
 use Rattle.zs_bounds.specs.declared.decisions.Decisions.{Decisions}
-use Rattle.zs_bounds.specs.DecisionRange.{may_go_on, decisions}
+use Rattle.zs_bounds.specs.DecisionRange.{may_go_on, decisions, test_decides}
 use Rattle.zs_bounds.specs.OutputRange.{OutputRange, nothing, numbers, pairs, sides, lists, anything, output_hull, first_range_in, second_range_in, merge_range, number_span, picked_span, may_pass, may_fail, applied_range}
 use Rattle.zs_bounds.specs.AnswerRange.{AnswerRange, range, answers_if, left_range, right_range, reset_range}
 use Rattle.zs_bounds.specs.StateRange.{turn_range}
@@ -213,6 +213,17 @@ pub pick_picks : (v made : Want) (k : Pick) (x r : OutputRange) → made ≡ wit
 pick_picks v made k x r made_is shows =
     let is = ap (λ m. read_range m x) (sym made_is) ∙ shows ∙ ap (λ m. read_range m r) made_is in
     sym (pick-reads v k x) ∙ ap (λ o. picked_span k o) is ∙ pick-reads v k r
+
+-- and so the decisions under a test of it
+pub pick_decides : (v made : Want) (k : Pick) (t : Test) (n : Option Span) (r : AnswerRange) (x : OutputRange) (d e : Decisions) →
+    made ≡ with_pick v k → read_range made x ≡ read_range made r.output → n ≡ picked_span k x → d ≡ r.decision →
+    e ≡ test_decides (may_pass t n) (may_fail t n) d →
+    e ≡ test_decides (may_pass t (picked_span k r.output)) (may_fail t (picked_span k r.output)) r.decision
+pick_decides v made k t n r x d e made_is shows n_is d_is e_is =
+    let picked = n_is ∙ pick_picks v made k x r.output made_is shows in
+    e_is
+    ∙ ap (λ m. test_decides (may_pass t m) (may_fail t m) d) picked
+    ∙ ap (λ m. test_decides (may_pass t (picked_span k r.output)) (may_fail t (picked_span k r.output)) m) d_is
 
 -- ---- a function of an output
 

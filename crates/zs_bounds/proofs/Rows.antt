@@ -1,5 +1,5 @@
 -- Worked bounds, each worked out by hand from docs/SEMANTICS.md. Each holds by computing alone.
-use Rattle.std.proofs.Common.{◌≡◌, ℕ, Option, Some, None, refl}
+use Rattle.std.proofs.Common.{◌≡◌, ℕ, true, false, Option, Some, None, refl}
 use Rattle.zs_term.specs.Schedule.{Schedule, leaf, two, over, forever, recurs, spaced, fixed, exponential, elapsed, linear, both, either, and_then, while_input, while_output, collect_all, mapped, reset_when}
 use Rattle.zs_term.specs.declared.term.Cmp.TheVariants.{Lt, Ne, Ge, Eq}
 use Rattle.zs_term.specs.declared.term.Pick.TheVariants.{Whole, Second as SecondPart, Size as SizeOf}
@@ -7,7 +7,7 @@ use Rattle.zs_term.specs.declared.term.Func.TheVariants.{Merge}
 use Rattle.zs_bounds.specs.declared.durations.Durations.{Durations}
 use Rattle.zs_bounds.specs.declared.told.Bounds.{Bounds}
 use Rattle.zs_bounds.specs.Driven.{any_duration}
-use Rattle.zs_bounds.specs.BoundsOf.{bounds_of}
+use Rattle.zs_bounds.specs.BoundsOf.{bounds_of, never_stops}
 
 -- the steps looked at, the least and the most, the longest wait, all waits; no longest run
 abbrev told : ℕ → ℕ → Option ℕ → ℕ → Option ℕ → Bounds
@@ -109,3 +109,15 @@ never_done = refl
 -- a run over the greatest number
 too_long_run : bounds_of (leaf (recurs 2)) (lasting 1 9223372036854775808) 5 ≡ told_run 3 3 (Some 3) 0 (Some 0) None
 too_long_run = refl
+
+-- ---- without an end
+
+never_both : never_stops (two both (leaf (spaced 1000)) (leaf (recurs 2))) ≡ false
+never_both = refl
+
+never_either : never_stops (two either (leaf (spaced 1000)) (leaf (recurs 2))) ≡ true
+never_either = refl
+
+-- the second part goes on after the first one is done
+never_then : never_stops (over (two and_then (leaf (recurs 2)) (leaf (spaced 1000))) collect_all) ≡ true
+never_then = refl

@@ -1,18 +1,24 @@
 -- What a step may return: a range of outputs, and decisions. An operator's rule for ranges, given
 -- those of its parts.
-use Rattle.std.specs.Prelude.{ℕ, ◌-◌, ◌*◌, ◌^◌, min, Bool, true, false, Option, Some, None, nat_lt, nat_le, if◌then◌else◌}
+use Rattle.std.specs.Prelude.{ℕ, ◌-◌, ◌*◌, ◌^◌, min, Bool, true, false, Option, Some, None, nat_lt}
+use Rattle.std.specs.Prelude.{nat_le, if◌then◌else◌}
 use Rattle.zs_term.specs.Saturating.{saturated, max_moment}
-use Rattle.zs_term.specs.Schedule.{Leaf, plain, counted, exponential, Modifier, while_input, while_output, collect_all, mapped, reset_when}
+use Rattle.zs_term.specs.Schedule.{Leaf, plain, counted, exponential, Modifier, while_input}
+use Rattle.zs_term.specs.Schedule.{while_output, collect_all, mapped, reset_when}
 use Rattle.zs_term.specs.declared.forms.Plain.TheVariants.{Forever, Identity, Elapsed}
-use Rattle.zs_term.specs.declared.forms.Counted.TheVariants.{Recurs, Spaced, Fixed, Fibonacci, Linear, Windowed}
+use Rattle.zs_term.specs.declared.forms.Counted.TheVariants.{Recurs, Spaced, Fixed, Fibonacci}
+use Rattle.zs_term.specs.declared.forms.Counted.TheVariants.{Linear, Windowed}
 use Rattle.zs_term.specs.declared.term.Test.{Test}
 use Rattle.zs_step.specs.Answer.{Answer, fibonacci_number}
 use Rattle.zs_bounds.specs.declared.span.Span.{Span}
 use Rattle.zs_bounds.specs.declared.decisions.Decisions.{Decisions}
 use Rattle.zs_bounds.specs.Driven.{max_tick}
 use Rattle.zs_bounds.specs.Span.{span}
-use Rattle.zs_bounds.specs.DecisionRange.{decisions, IsDecisionIn, may_go_on, decision_hull, test_decides, going_on, no_decision}
-use Rattle.zs_bounds.specs.OutputRange.{OutputRange, nothing, numbers, pairs, sides, lists, IsOutputIn, output_hull, picked_span, may_pass, may_fail, applied_range}
+use Rattle.zs_bounds.specs.DecisionRange.{decisions, IsDecisionIn, may_go_on, decision_hull}
+use Rattle.zs_bounds.specs.DecisionRange.{test_decides, going_on, no_decision}
+use Rattle.zs_bounds.specs.OutputRange.{OutputRange, nothing, numbers, pairs, sides, lists}
+use Rattle.zs_bounds.specs.OutputRange.{IsOutputIn, output_hull, picked_span, may_pass, may_fail}
+use Rattle.zs_bounds.specs.OutputRange.{applied_range}
 
 -- a range of outputs, and decisions
 pub record AnswerRange : Type 0 where
@@ -80,7 +86,8 @@ span_of f n = span (f n.low) (f n.high)
 abbrev pub leaf_range : Leaf → Span → Span → AnswerRange
 leaf_range (plain Forever) n t = range (numbers (earlier_steps n)) (always at_once)
 leaf_range (counted Recurs k) n t =
-    range (numbers (earlier_steps n)) (decisions (nat_le k (n.high - 1)) (if nat_lt (n.low - 1) k then at_once else None))
+    range (numbers (earlier_steps n))
+    (decisions (nat_le k (n.high - 1)) (if nat_lt (n.low - 1) k then at_once else None))
 leaf_range (counted Spaced d) n t = range (numbers (earlier_steps n)) (always (delays (span d d)))
 leaf_range (counted Fixed p) n t = range (numbers (earlier_steps n)) (always (period_waits p 0 n))
 leaf_range (exponential b f) n t = waiting (span_of (λ k. saturated (b * f ^ k)) (earlier_steps n))
@@ -88,17 +95,20 @@ leaf_range (counted Fibonacci o) n t = waiting (span_of (λ k. saturated (o * fi
 leaf_range (plain Identity) n t = range (numbers (span 0 max_moment)) (always at_once)
 leaf_range (plain Elapsed) n t = range (numbers t) (always at_once)
 leaf_range (counted Linear b) n t = waiting (span_of (λ k. saturated (b * k)) n)
-leaf_range (counted Windowed p) n t = range (numbers (earlier_steps n)) (always (period_waits p 1 n))
+leaf_range (counted Windowed p) n t =
+    range (numbers (earlier_steps n)) (always (period_waits p 1 n))
 
 -- ---- operators
 
 -- the results of `&&`, and of `||`, by how they join decisions
-abbrev pub pair_range : (Decisions → Decisions → Decisions) → AnswerRange → AnswerRange → AnswerRange
+abbrev pub pair_range : (Decisions → Decisions → Decisions) → AnswerRange → AnswerRange
+    → AnswerRange
 pair_range f a b = range (pairs a.output b.output) (f a.decision b.decision)
 
 -- the results of a first part that goes on
 abbrev pub left_range : AnswerRange → AnswerRange
-left_range a = answers_if (may_go_on a.decision) (range (sides a.output nothing) (going_on a.decision))
+left_range a =
+    answers_if (may_go_on a.decision) (range (sides a.output nothing) (going_on a.decision))
 
 -- the results of a second part
 abbrev pub right_range : AnswerRange → AnswerRange

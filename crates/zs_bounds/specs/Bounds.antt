@@ -29,16 +29,23 @@ total_wait s (p ∷ h) = last_wait s (p ∷ h) + total_wait s h
 abbrev pub NextEndsAt : Schedule → Durations → ℕ → History → ℕ → Type 0
 NextEndsAt s d begun [] m = IsAttempt d begun m
 NextEndsAt s d begun (p ∷ h) m =
-    IsDriven s d (p ∷ h) × IsAttempt d begun (first_moment (p ∷ h)) × LetsEndAt d (answer_of s (p ∷ h)).decision m
+    IsDriven s d (p ∷ h) × IsAttempt d begun (first_moment (p ∷ h))
+    × LetsEndAt d (answer_of s (p ∷ h)).decision m
+
+-- A schedule never gives up: it goes on after each step of every history.
+abbrev pub NeverGivesUp : Schedule → Type 0
+NeverGivesUp s = (p : ℕ × ℕ) (h : History) → is_next (answer_of s (p ∷ h)).decision ≡ true
 
 -- What is promised of every history that a driver can make with a schedule, by the durations of
 -- attempts.
 pub record Promises (s : Schedule) (d : Durations) (b : Bounds) : Type 0 where
   -- with a most, no history has more steps, and at that step the schedule is done
   pub most : (k : ℕ) → b.most ≡ Some k → (h : History) → IsDriven s d h → length h ≤ k
-  pub done : (k : ℕ) → b.most ≡ Some k → (h : History) → IsDriven s d h → length h ≡ k → (answer_of s h).decision ≡ Stop
+  pub done : (k : ℕ) → b.most ≡ Some k → (h : History) → IsDriven s d h → length h ≡ k
+      → (answer_of s h).decision ≡ Stop
   -- before the least step the schedule goes on
-  pub least : (h : History) → IsDriven s d h → length h < b.least → is_next (answer_of s h).decision ≡ true
+  pub least : (h : History) → IsDriven s d h → length h < b.least
+      → is_next (answer_of s h).decision ≡ true
   -- no wait after a step that was looked at is longer
   pub longest : (h : History) → IsDriven s d h → length h ≤ b.seen → last_wait s h ≤ b.longest
   -- with a total, all waits of a history are no longer in all
@@ -47,6 +54,7 @@ pub record Promises (s : Schedule) (d : Durations) (b : Bounds) : Type 0 where
   pub run : (r : ℕ) → b.longest_run ≡ Some r → (h : History) → IsDriven s d h
       → (begun : ℕ) → IsAttempt d begun (first_moment h) → last_moment h ≤ begun + r
   -- and so does every attempt that begins, even if no clock goes on to its end
-  pub next : (r : ℕ) → b.longest_run ≡ Some r → (begun : ℕ) (h : History) (m : ℕ) → NextEndsAt s d begun h m → m ≤ begun + r
+  pub next : (r : ℕ) → b.longest_run ≡ Some r → (begun : ℕ) (h : History) (m : ℕ)
+      → NextEndsAt s d begun h m → m ≤ begun + r
   -- with a most, every step was looked at
   pub whole : (k : ℕ) → b.most ≡ Some k → b.seen ≡ k

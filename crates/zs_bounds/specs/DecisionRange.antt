@@ -1,5 +1,6 @@
 -- What a step may decide, and how the operators join it.
-use Rattle.std.specs.Prelude.{◌≡◌, ℕ, ◌+◌, ◌≤◌, min, max, Bool, true, false, ◌&&◌, ◌||◌, is_some, Option, Some, None}
+use Rattle.std.specs.Prelude.{◌≡◌, ℕ, ◌+◌, ◌≤◌, min, max, Bool, true, false, ◌&&◌, ◌||◌, is_some}
+use Rattle.std.specs.Prelude.{Option, Some, None}
 use Rattle.zs_step.specs.declared.decision.Decision.{Decision}
 use Rattle.zs_step.specs.declared.decision.Decision.TheVariants.{Stop, Next}
 use Rattle.zs_bounds.specs.declared.span.Span.{Span}
@@ -63,7 +64,9 @@ both_decide d e = decisions (d.stops || e.stops) (later_waits d.waits e.waits)
 -- `||` goes on if one does: with the wait of one alone if the other may be done
 abbrev pub either_decides : Decisions → Decisions → Decisions
 either_decides d e =
-    decisions (d.stops && e.stops) (wait_hull (earlier_waits d.waits e.waits) (wait_hull (waits_if e.stops d.waits) (waits_if d.stops e.waits)))
+    decisions (d.stops && e.stops)
+    (wait_hull (earlier_waits d.waits e.waits)
+    (wait_hull (waits_if e.stops d.waits) (waits_if d.stops e.waits)))
 
 -- a test lets a step go on if it may pass, and ends it if it may fail
 abbrev pub test_decides : Bool → Bool → Decisions → Decisions

@@ -43,4 +43,5 @@ LetsEndAt d (Next x) m = IsAttempt d x m
 abbrev pub IsDriven : Schedule → Durations → History → Type 0
 IsDriven s d [] = ⊥
 IsDriven s d (p ∷ []) = IsStep p
-IsDriven s d (p ∷ (q ∷ h)) = IsStep p × LetsEndAt d (answer_of s (q ∷ h)).decision p.0 × IsDriven s d (q ∷ h)
+IsDriven s d (p ∷ (q ∷ h)) =
+    IsStep p × LetsEndAt d (answer_of s (q ∷ h)).decision p.0 × IsDriven s d (q ∷ h)

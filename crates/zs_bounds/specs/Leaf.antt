@@ -1,7 +1,10 @@
 -- The plain value of a leaf.
-use Rattle.zs_term.specs.Schedule.{Leaf as Bare, forever, recurs, spaced, fixed, exponential, fibonacci, identity, elapsed, linear, windowed}
+use Rattle.zs_term.specs.Schedule.{Leaf as Bare, forever, recurs, spaced, fixed, exponential}
+use Rattle.zs_term.specs.Schedule.{fibonacci, identity, elapsed, linear, windowed}
 use Rattle.zs_bounds.specs.declared.leaves.Leaf.{Leaf}
-use Rattle.zs_bounds.specs.declared.leaves.Leaf.TheVariants.{Forever, Recurs, Spaced, Fixed, Exponential, Fibonacci, Identity, Elapsed, Linear, Windowed}
+use Rattle.zs_bounds.specs.declared.leaves.Leaf.TheVariants.{Forever, Recurs, Spaced, Fixed}
+use Rattle.zs_bounds.specs.declared.leaves.Leaf.TheVariants.{Exponential, Fibonacci, Identity}
+use Rattle.zs_bounds.specs.declared.leaves.Leaf.TheVariants.{Elapsed, Linear, Windowed}
 
 -- the leaf of a schedule that a node's leaf represents
 abbrev pub bare_leaf : Leaf → Bare

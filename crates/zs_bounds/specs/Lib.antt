@@ -12,5 +12,6 @@ pub mod BoundsOf
 pub mod OutRange
 pub mod Leaf
 pub mod Node
+pub mod Steps
 pub mod Reads
 pub mod Sizes

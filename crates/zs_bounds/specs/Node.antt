@@ -1,7 +1,8 @@
 -- The schedule that a node was made of, the range of states that it has, and what it knows of first
 -- steps.
-use Rattle.std.specs.Prelude.{◌≡◌, Bool, true, false, if◌then◌else◌}
-use Rattle.zs_term.specs.Schedule.{Schedule, leaf, two, over, both, either, and_then, while_input, while_output, collect_all, mapped, reset_when}
+use Rattle.std.specs.Prelude.{◌≡◌, Bool, true, false, ◌||◌, if◌then◌else◌}
+use Rattle.zs_term.specs.Schedule.{Schedule, leaf, two, over, both, either, and_then, while_input}
+use Rattle.zs_term.specs.Schedule.{while_output, collect_all, mapped, reset_when}
 use Rattle.zs_bounds.specs.declared.decisions.Decisions.{Decisions}
 use Rattle.zs_bounds.specs.declared.span.Span.{Span}
 use Rattle.zs_bounds.specs.declared.turns.Fresh.{Fresh}
@@ -9,11 +10,15 @@ use Rattle.zs_bounds.specs.declared.turns.Fresh.TheVariants.{Nothing, Beside, Al
 use Rattle.zs_bounds.specs.declared.turns.Turn.{Turn}
 use Rattle.zs_bounds.specs.declared.turns.Turns.{Turns}
 use Rattle.zs_bounds.specs.declared.node.Node.{Node}
-use Rattle.zs_bounds.specs.declared.node.Node.TheVariants.{Leaf, Both', Either', AndThen', WhileInput', WhileOutput', CollectAll', Map', ResetWhen'}
+use Rattle.zs_bounds.specs.declared.ranges.OutRange.{OutRange}
+use Rattle.zs_bounds.specs.declared.node.Node.TheVariants.{Leaf, Both', Either', AndThen'}
+use Rattle.zs_bounds.specs.declared.node.Node.TheVariants.{WhileInput', WhileOutput', CollectAll'}
+use Rattle.zs_bounds.specs.declared.node.Node.TheVariants.{Map', ResetWhen'}
 use Rattle.zs_bounds.specs.Leaf.{bare_leaf}
 use Rattle.zs_bounds.specs.AnswerRange.{AnswerRange, range}
 use Rattle.zs_bounds.specs.OutRange.{output_range_of}
-use Rattle.zs_bounds.specs.StateRange.{StateRange, counts, parts, turns, items, first_range, first_state, with_first, next_range, next_state}
+use Rattle.zs_bounds.specs.StateRange.{StateRange, counts, parts, turns, items, first_range}
+use Rattle.zs_bounds.specs.StateRange.{first_state, with_first, begun, next_range, next_state}
 
 -- the schedule that a node was made of
 abbrev pub node_schedule : Node → Schedule
@@ -47,6 +52,10 @@ fresh_added true true Alone = Alone
 abbrev pub turn_of : Bool → Decisions → Fresh → Turn
 turn_of on d f = record { is_on = on; begins = d; fresh = f }
 
+-- a turn whose part may also be at its first step, if it may begin
+abbrev pub turn_added : Bool → Turn → Turn
+turn_added begins t = turn_of (t.is_on || begins) t.begins (fresh_added begins t.is_on t.fresh)
+
 -- the range of states that a node has
 abbrev pub node_state : Node → StateRange
 node_state (Leaf l n t) = counts n t
@@ -78,19 +87,30 @@ node_range n d = next_range (node_schedule n) (node_state n) d
 abbrev pub node_next : Node → Span → StateRange
 node_next n d = next_state (node_schedule n) (node_state n) d
 
+-- of a node whose part may begin, and may have been on
+abbrev pub node_begun : Bool → Bool → Node → StateRange
+node_begun begins on n =
+    begun begins on (with_first (node_schedule n) (node_state n)) (first_state (node_schedule n))
+    (node_state n)
+
 -- of a part whose turn it may be
 abbrev pub part_range : Turn → Node → Span → AnswerRange
 part_range t n d = next_range (node_schedule n) (part_state t n) d
 
 abbrev pub part_next : Turn → Node → Span → StateRange
-part_next t n d = if t.is_on then next_state (node_schedule n) (part_state t n) d else part_state t n
+part_next t n d =
+    if t.is_on then next_state (node_schedule n) (part_state t n) d else part_state t n
 
 -- of two parts in turn
 abbrev pub turns_range : Turns → Node → Node → Span → AnswerRange
-turns_range t a b d = next_range (two and_then (node_schedule a) (node_schedule b)) (turn_states t.first t.second a b) d
+turns_range t a b d =
+    next_range (two and_then (node_schedule a) (node_schedule b)) (turn_states t.first t.second a b)
+    d
 
 abbrev pub turns_next : Turns → Node → Node → Span → StateRange
-turns_next t a b d = next_state (two and_then (node_schedule a) (node_schedule b)) (turn_states t.first t.second a b) d
+turns_next t a b d =
+    next_state (two and_then (node_schedule a) (node_schedule b)) (turn_states t.first t.second a b)
+    d
 
 -- ---- what first steps may return: of both parts in turn, of a part that is collected, and of a
 -- ---- part that may be reset
@@ -109,7 +129,8 @@ node_firsts (Leaf l n t) = no_firsts
 node_firsts (Both' p a q b) = part_firsts (node_firsts a) (node_firsts b)
 node_firsts (Either' p a q b) = part_firsts (node_firsts a) (node_firsts b)
 node_firsts (AndThen' t p a q b) =
-    turn_firsts t.first.begins (range (output_range_of t.start) t.second.begins) (node_firsts a) (node_firsts b)
+    turn_firsts t.first.begins (range (output_range_of t.start) t.second.begins) (node_firsts a)
+    (node_firsts b)
 node_firsts (WhileInput' p s t) = node_firsts s
 node_firsts (WhileOutput' p s k t) = node_firsts s
 node_firsts (CollectAll' p s d n) = item_firsts d (node_firsts s)
@@ -121,7 +142,8 @@ abbrev pub firsts_of : Schedule → Firsts
 firsts_of (leaf l) = no_firsts
 firsts_of (two both a b) = part_firsts (firsts_of a) (firsts_of b)
 firsts_of (two either a b) = part_firsts (firsts_of a) (firsts_of b)
-firsts_of (two and_then a b) = turn_firsts (first_range a).decision (first_range b) (firsts_of a) (firsts_of b)
+firsts_of (two and_then a b) =
+    turn_firsts (first_range a).decision (first_range b) (firsts_of a) (firsts_of b)
 firsts_of (over s (while_input t)) = firsts_of s
 firsts_of (over s (while_output k t)) = firsts_of s
 firsts_of (over s collect_all) = item_firsts (first_range s).decision (firsts_of s)
@@ -132,6 +154,29 @@ firsts_of (over s (reset_when k t)) = reset_firsts (first_range s) (firsts_of s)
 abbrev pub KnowsFirsts : Node → Type 0
 KnowsFirsts n = node_firsts n ≡ firsts_of (node_schedule n)
 
+-- what is stored of a part's first step is right
+abbrev pub KnowsFirst : OutRange → Decisions → Node → Type 0
+KnowsFirst out d n = range (output_range_of out) d ≡ first_range (node_schedule n)
+
+-- two parts in turn have their first steps right, as does what is stored of the second's
+abbrev pub KnowsTurns : Turns → Node → Node → Type 0
+KnowsTurns t a b = KnowsFirsts a × KnowsFirsts b × KnowsFirst t.start t.second.begins b
+
+-- two nodes in turn
+abbrev pub in_turn : Node → Node → Schedule
+in_turn a b = two and_then (node_schedule a) (node_schedule b)
+
+-- a node is that of a schedule after its first step, and these are the results of that step
+pub record IsMade (s : Schedule) (n : Node) (r : OutRange × Decisions) : Type 0 where
+  pub schedule : node_schedule n ≡ s
+  pub firsts : KnowsFirsts n
+  pub state : node_state n ≡ first_state s
+  pub first : KnowsFirst r.0 r.1 n
+
+-- and that of the schedule that it was made of
+abbrev pub IsMadeNode : Node → OutRange × Decisions → Type 0
+IsMadeNode n r = IsMade (node_schedule n) n r
+
 -- ---- what a step leaves unchanged
 
 -- a node's schedule, and what it knows of first steps
@@ -141,4 +186,5 @@ SameNode n m = (node_schedule m ≡ node_schedule n) × (node_firsts m ≡ node_
 -- what two parts in turn know of first steps
 abbrev pub SameTurns : Turns → Turns → Type 0
 SameTurns t u =
-    (u.first.begins ≡ t.first.begins) × (u.second.begins ≡ t.second.begins) × (output_range_of u.start ≡ output_range_of t.start)
+    (u.first.begins ≡ t.first.begins) × (u.second.begins ≡ t.second.begins)
+    × (output_range_of u.start ≡ output_range_of t.start)

@@ -1,15 +1,18 @@
 -- What a step may return as its output: a range for each kind of output, and what tests and
 -- functions make of it.
-use Rattle.std.specs.Prelude.{ℕ, ◌+◌, ◌*◌, Bool, true, not, ◌&&◌, nat_lt, nat_le, nat_eq, Option, Some, None}
+use Rattle.std.specs.Prelude.{ℕ, ◌+◌, ◌*◌, Bool, true, not, ◌&&◌, nat_lt, nat_le, nat_eq, Option}
+use Rattle.std.specs.Prelude.{Some, None}
 use Rattle.zs_term.specs.Saturating.{saturated}
 use Rattle.zs_term.specs.Output.{Output, number, pair, left, right, listed, count}
 use Rattle.zs_term.specs.declared.term.Test.{Test}
 use Rattle.zs_term.specs.declared.term.Cmp.{Cmp}
 use Rattle.zs_term.specs.declared.term.Cmp.TheVariants.{Lt, Le, Eq, Ne, Gt, Ge}
 use Rattle.zs_term.specs.declared.term.Pick.{Pick}
-use Rattle.zs_term.specs.declared.term.Pick.TheVariants.{Whole, First as PickFirst, Second as PickSecond, Size as PickSize}
+use Rattle.zs_term.specs.declared.term.Pick.TheVariants.{Whole, First as PickFirst}
+use Rattle.zs_term.specs.declared.term.Pick.TheVariants.{Second as PickSecond, Size as PickSize}
 use Rattle.zs_term.specs.declared.term.Func.{Func}
-use Rattle.zs_term.specs.declared.term.Func.TheVariants.{First, Second, Size, Merge, Const, Add, Mul}
+use Rattle.zs_term.specs.declared.term.Func.TheVariants.{First, Second, Size, Merge, Const, Add}
+use Rattle.zs_term.specs.declared.term.Func.TheVariants.{Mul}
 use Rattle.zs_bounds.specs.declared.span.Span.{Span}
 use Rattle.zs_bounds.specs.Span.{IsIn, span, hull}
 

@@ -1,14 +1,17 @@
 -- What is read of an output, and when a range shows it. No reader has to believe this file.
 use Rattle.std.specs.Prelude.{◌≡◌, Bool, true, false}
 use Rattle.zs_term.specs.declared.term.Pick.{Pick}
-use Rattle.zs_term.specs.declared.term.Pick.TheVariants.{Whole as PickWhole, First as PickFirst, Second as PickSecond, Size as PickSize}
+use Rattle.zs_term.specs.declared.term.Pick.TheVariants.{Whole as PickWhole, First as PickFirst}
+use Rattle.zs_term.specs.declared.term.Pick.TheVariants.{Second as PickSecond, Size as PickSize}
 use Rattle.zs_term.specs.declared.term.Func.{Func}
-use Rattle.zs_term.specs.declared.term.Func.TheVariants.{First as TakeFirst, Second as TakeSecond, Size, Merge, Const, Add, Mul}
+use Rattle.zs_term.specs.declared.term.Func.TheVariants.{First as TakeFirst, Second as TakeSecond}
+use Rattle.zs_term.specs.declared.term.Func.TheVariants.{Size, Merge, Const, Add, Mul}
 use Rattle.zs_bounds.specs.declared.reads.Reads.{Reads}
 use Rattle.zs_bounds.specs.declared.reads.Reads.TheVariants.{Nothing, Whole, Parts', Sides'}
 use Rattle.zs_bounds.specs.declared.ranges.OutRange.{OutRange}
 use Rattle.zs_bounds.specs.OutRange.{output_range_of}
-use Rattle.zs_bounds.specs.OutputRange.{OutputRange, nothing, numbers, pairs, sides, lists, anything, output_hull}
+use Rattle.zs_bounds.specs.OutputRange.{OutputRange, nothing, numbers, pairs, sides, lists}
+use Rattle.zs_bounds.specs.OutputRange.{anything, output_hull}
 
 -- What is read: nothing, all of it, something of each part of pairs, or the same of both sides of a
 -- choice.
@@ -66,6 +69,18 @@ abbrev pub reset_output : Bool → Bool → OutputRange → OutputRange → Outp
 reset_output true true a b = output_hull a b
 reset_output true false a b = b
 reset_output false fails a b = a
+
+-- a range has what is read of a hull, of the output of a part that may be reset, and of a choice
+abbrev pub ShowsHull : Reads → OutRange → OutputRange → OutRange → Type 0
+ShowsHull v a r out = Shows v out (output_hull (output_range_of a) r)
+
+abbrev pub ShowsReset : Reads → Bool → Bool → OutRange → OutRange → OutRange → Type 0
+ShowsReset v passes fails a b out =
+    Shows v out (reset_output passes fails (output_range_of a) (output_range_of b))
+
+abbrev pub ShowsSides : Reads → Bool → OutRange → OutRange → OutRange → Type 0
+ShowsSides v is_any a b out =
+    Shows v out (range_if is_any (sides (output_range_of a) (output_range_of b)))
 
 -- with the first part of pairs, as a whole
 abbrev pub with_first : Want → Want

@@ -1,6 +1,7 @@
 -- The size of a range of outputs, which its walks go down.
 use Rattle.std.specs.Prelude.{ℕ, ◌+◌}
-use Rattle.zs_bounds.specs.OutputRange.{OutputRange, nothing, numbers, pairs, sides, lists, anything}
+use Rattle.zs_bounds.specs.OutputRange.{OutputRange, nothing, numbers, pairs, sides, lists}
+use Rattle.zs_bounds.specs.OutputRange.{anything}
 
 -- the number of ranges in a range, with itself
 abbrev pub range_size : OutputRange → ℕ

@@ -4,14 +4,16 @@
 -- `Bounds` promises.
 use Rattle.std.specs.Prelude.{◌+◌, min, Bool, true, false, ◌&&◌, ◌||◌, if◌then◌else◌}
 use Rattle.zs_term.specs.Saturating.{saturated}
-use Rattle.zs_term.specs.Schedule.{Schedule, leaf, two, over, both, either, and_then, while_input, while_output, collect_all, mapped, reset_when}
+use Rattle.zs_term.specs.Schedule.{Schedule, leaf, two, over, both, either, and_then, while_input}
+use Rattle.zs_term.specs.Schedule.{while_output, collect_all, mapped, reset_when}
 use Rattle.zs_bounds.specs.declared.span.Span.{Span}
 use Rattle.zs_bounds.specs.declared.decisions.Decisions.{Decisions}
 use Rattle.zs_bounds.specs.Driven.{max_tick}
 use Rattle.zs_bounds.specs.Span.{span, hull}
 use Rattle.zs_bounds.specs.DecisionRange.{may_go_on, both_decide, either_decides}
 use Rattle.zs_bounds.specs.OutputRange.{picked_span, may_pass, may_fail}
-use Rattle.zs_bounds.specs.AnswerRange.{AnswerRange, answer_hull, answers_if, leaf_range, pair_range, left_range, right_range, modified_range}
+use Rattle.zs_bounds.specs.AnswerRange.{AnswerRange, answer_hull, answers_if, leaf_range}
+use Rattle.zs_bounds.specs.AnswerRange.{pair_range, left_range, right_range, modified_range}
 
 -- The shape of a schedule's state. A leaf has its number of steps and the time since the first one.
 -- `andThenEither` has whether its first part may still be on, and whether its second part may be.
@@ -79,16 +81,21 @@ first_range (leaf l) = leaf_range l (span 1 1) (span 0 0)
 first_range (two both a b) = pair_range both_decide (first_range a) (first_range b)
 first_range (two either a b) = pair_range either_decides (first_range a) (first_range b)
 first_range (two and_then a b) = first_turn (first_range a) (first_range b)
-first_range (over s (while_input t)) = modified_range (while_input t) (span 0 0) (first_range s) (first_range s)
-first_range (over s (while_output k t)) = modified_range (while_output k t) (span 0 0) (first_range s) (first_range s)
-first_range (over s collect_all) = modified_range collect_all (span 0 0) (first_range s) (first_range s)
-first_range (over s (mapped f)) = modified_range (mapped f) (span 0 0) (first_range s) (first_range s)
+first_range (over s (while_input t)) =
+    modified_range (while_input t) (span 0 0) (first_range s) (first_range s)
+first_range (over s (while_output k t)) =
+    modified_range (while_output k t) (span 0 0) (first_range s) (first_range s)
+first_range (over s collect_all) =
+    modified_range collect_all (span 0 0) (first_range s) (first_range s)
+first_range (over s (mapped f)) =
+    modified_range (mapped f) (span 0 0) (first_range s) (first_range s)
 first_range (over s (reset_when k t)) = first_range s
 
 -- one more item if a step goes on
 abbrev pub more_items : Decisions → Span → Span
 more_items d n =
-    span (if d.stops then n.low else saturated (n.low + 1)) (if may_go_on d then saturated (n.high + 1) else n.high)
+    span (if d.stops then n.low else saturated (n.low + 1))
+    (if may_go_on d then saturated (n.high + 1) else n.high)
 
 -- the states after the first step
 abbrev pub first_state : Schedule → StateRange
@@ -96,10 +103,12 @@ first_state (leaf l) = counts (span 1 1) (span 0 0)
 first_state (two both a b) = parts (first_state a) (first_state b)
 first_state (two either a b) = parts (first_state a) (first_state b)
 first_state (two and_then a b) =
-    turns (may_go_on (first_range a).decision) (first_range a).decision.stops (first_state a) (first_state b)
+    turns (may_go_on (first_range a).decision) (first_range a).decision.stops (first_state a)
+    (first_state b)
 first_state (over s (while_input t)) = first_state s
 first_state (over s (while_output k t)) = first_state s
-first_state (over s collect_all) = items (more_items (first_range s).decision (span 0 0)) (first_state s)
+first_state (over s collect_all) =
+    items (more_items (first_range s).decision (span 0 0)) (first_state s)
 first_state (over s (mapped f)) = first_state s
 first_state (over s (reset_when k t)) = first_state s
 
@@ -118,13 +127,17 @@ with_first (leaf l) c = counts (hull (steps_in c) (span 1 1)) (hull (time_in c) 
 with_first (two both a b) c = parts (with_first a (first_in c)) (with_first b (second_in c))
 with_first (two either a b) c = parts (with_first a (first_in c)) (with_first b (second_in c))
 with_first (two and_then a b) c =
-    turns (is_first_on c || may_go_on (first_range a).decision) (is_second_on c || (first_range a).decision.stops)
-    (begun (may_go_on (first_range a).decision) (is_first_on c) (with_first a (first_in c)) (first_state a) (first_in c))
-    (begun (first_range a).decision.stops (is_second_on c) (with_first b (second_in c)) (first_state b) (second_in c))
+    turns (is_first_on c || may_go_on (first_range a).decision)
+    (is_second_on c || (first_range a).decision.stops)
+    (begun (may_go_on (first_range a).decision) (is_first_on c) (with_first a (first_in c))
+    (first_state a) (first_in c))
+    (begun (first_range a).decision.stops (is_second_on c) (with_first b (second_in c))
+    (first_state b) (second_in c))
 with_first (over s (while_input t)) c = with_first s c
 with_first (over s (while_output k t)) c = with_first s c
 with_first (over s collect_all) c =
-    items (hull (items_in c) (more_items (first_range s).decision (span 0 0))) (with_first s (part_in c))
+    items (hull (items_in c) (more_items (first_range s).decision (span 0 0)))
+    (with_first s (part_in c))
 with_first (over s (mapped f)) c = with_first s c
 with_first (over s (reset_when k t)) c = with_first s c
 
@@ -134,7 +147,8 @@ with_first (over s (reset_when k t)) c = with_first s c
 -- of the second's first step if the first may be done.
 abbrev pub turn_range : Bool → Bool → AnswerRange → AnswerRange → AnswerRange → AnswerRange
 turn_range first_on second_on a b begins =
-    answer_hull (answer_hull (answers_if first_on (left_range a)) (answers_if second_on (right_range b)))
+    answer_hull
+    (answer_hull (answers_if first_on (left_range a)) (answers_if second_on (right_range b)))
     (answers_if (first_on && a.decision.stops) (right_range begins))
 
 -- one more step
@@ -148,21 +162,33 @@ more_time d t = span (saturated (t.low + d.low)) (min (saturated (t.high + d.hig
 -- what the next step may return
 abbrev pub next_range : Schedule → StateRange → Span → AnswerRange
 next_range (leaf l) c d = leaf_range l (more_steps (steps_in c)) (more_time d (time_in c))
-next_range (two both a b) c d = pair_range both_decide (next_range a (first_in c) d) (next_range b (second_in c) d)
-next_range (two either a b) c d = pair_range either_decides (next_range a (first_in c) d) (next_range b (second_in c) d)
+next_range (two both a b) c d =
+    pair_range both_decide (next_range a (first_in c) d) (next_range b (second_in c) d)
+next_range (two either a b) c d =
+    pair_range either_decides (next_range a (first_in c) d) (next_range b (second_in c) d)
 next_range (two and_then a b) c d =
-    turn_range (is_first_on c) (is_second_on c) (next_range a (first_in c) d) (next_range b (second_in c) d) (first_range b)
-next_range (over s (while_input t)) c d = modified_range (while_input t) (items_in c) (next_range s c d) (first_range s)
-next_range (over s (while_output k t)) c d = modified_range (while_output k t) (items_in c) (next_range s c d) (first_range s)
-next_range (over s collect_all) c d = modified_range collect_all (items_in c) (next_range s (part_in c) d) (first_range s)
-next_range (over s (mapped f)) c d = modified_range (mapped f) (items_in c) (next_range s c d) (first_range s)
-next_range (over s (reset_when k t)) c d = modified_range (reset_when k t) (items_in c) (next_range s c d) (first_range s)
+    turn_range (is_first_on c) (is_second_on c) (next_range a (first_in c) d)
+    (next_range b (second_in c) d) (first_range b)
+next_range (over s (while_input t)) c d =
+    modified_range (while_input t) (items_in c) (next_range s c d) (first_range s)
+next_range (over s (while_output k t)) c d =
+    modified_range (while_output k t) (items_in c) (next_range s c d) (first_range s)
+next_range (over s collect_all) c d =
+    modified_range collect_all (items_in c) (next_range s (part_in c) d) (first_range s)
+next_range (over s (mapped f)) c d =
+    modified_range (mapped f) (items_in c) (next_range s c d) (first_range s)
+next_range (over s (reset_when k t)) c d =
+    modified_range (reset_when k t) (items_in c) (next_range s c d) (first_range s)
 
 -- The states of two parts in turn after a step.
-abbrev pub turn_state : Bool → Bool → Decisions → StateRange → StateRange → StateRange → StateRange → StateRange → StateRange → StateRange
-turn_state first_on second_on d old_first new_first old_second new_second with_first_second first_second =
-    turns (first_on && may_go_on d) (second_on || (first_on && d.stops)) (if first_on then new_first else old_first)
-    (begun (first_on && d.stops) second_on with_first_second first_second (if second_on then new_second else old_second))
+abbrev pub turn_state : Bool → Bool → Decisions → StateRange → StateRange → StateRange → StateRange
+    → StateRange → StateRange → StateRange
+turn_state first_on second_on d old_first new_first old_second new_second with_first_second
+    first_second =
+    turns (first_on && may_go_on d) (second_on || (first_on && d.stops))
+    (if first_on then new_first else old_first)
+    (begun (first_on && d.stops) second_on with_first_second first_second
+    (if second_on then new_second else old_second))
 
 -- the states after the next step
 abbrev pub next_state : Schedule → StateRange → Span → StateRange
@@ -170,12 +196,17 @@ next_state (leaf l) c d = counts (more_steps (steps_in c)) (more_time d (time_in
 next_state (two both a b) c d = parts (next_state a (first_in c) d) (next_state b (second_in c) d)
 next_state (two either a b) c d = parts (next_state a (first_in c) d) (next_state b (second_in c) d)
 next_state (two and_then a b) c d =
-    turn_state (is_first_on c) (is_second_on c) (next_range a (first_in c) d).decision (first_in c) (next_state a (first_in c) d)
-    (second_in c) (next_state b (second_in c) d) (with_first b (next_state b (second_in c) d)) (first_state b)
+    turn_state (is_first_on c) (is_second_on c) (next_range a (first_in c) d).decision (first_in c)
+    (next_state a (first_in c) d)
+    (second_in c) (next_state b (second_in c) d) (with_first b (next_state b (second_in c) d))
+    (first_state b)
 next_state (over s (while_input t)) c d = next_state s c d
 next_state (over s (while_output k t)) c d = next_state s c d
-next_state (over s collect_all) c d = items (more_items (next_range s (part_in c) d).decision (items_in c)) (next_state s (part_in c) d)
+next_state (over s collect_all) c d =
+    items (more_items (next_range s (part_in c) d).decision (items_in c))
+    (next_state s (part_in c) d)
 next_state (over s (mapped f)) c d = next_state s c d
 next_state (over s (reset_when k t)) c d =
-    begun (may_pass t (picked_span k (next_range s c d).output)) (may_fail t (picked_span k (next_range s c d).output))
+    begun (may_pass t (picked_span k (next_range s c d).output))
+    (may_fail t (picked_span k (next_range s c d).output))
     (with_first s (next_state s c d)) (first_state s) (next_state s c d)

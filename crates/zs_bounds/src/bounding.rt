@@ -3,16 +3,17 @@
 ghost use Rattle.std.specs.Prelude.{◌≡◌, IfOk};
 ghost use Rattle.zs_term.specs.Schedule.{schedule_of};
 ghost use Rattle.zs_bounds.specs.Bounds.{Promises};
-ghost use Rattle.zs_bounds.specs.BoundsOf.{bounds_of, bounds_from, no_bounds};
-ghost use Rattle.zs_bounds.specs.Node.{node_schedule, node_state, KnowsFirsts};
+ghost use Rattle.zs_bounds.specs.BoundsOf.{bounds_of};
+ghost use Rattle.zs_bounds.specs.Node.{KnowsFirsts};
+ghost use Rattle.zs_bounds.specs.Steps.{bounds_at};
 
 use crate::decisions::Decisions;
 use crate::durations::Durations;
-use crate::node::{Node, begin, first_range, node_of};
+use crate::node::{Node, node_of};
 use crate::ranges::OutRange;
 use crate::reads::Reads;
 use crate::span::MAX_TICK;
-use crate::stepping::step;
+use crate::stepping::{Next, step};
 use crate::told::Bounds;
 use std::alloc::{AllocError, Global};
 use zs_term::Checked;
@@ -32,9 +33,7 @@ pub fn bounds(
     ensures promises { IfOk result (Promises (schedule_of checked.now) durations) }
     ensures value { IfOk result (λ b. b ≡ bounds_of (schedule_of checked.now) durations steps) }
 {
-    let mut node = node_of(alloc, checked.term())?;
-    begin(&mut node);
-    let first = first_range(alloc, &node)?;
+    let (mut node, first) = node_of(alloc, checked.term())?;
     bounds_from(alloc, &mut node, durations, first.1, steps)
 }
 
@@ -48,10 +47,7 @@ fn bounds_from(
     steps: u64,
 ) -> Result<Bounds, AllocError>
     requires firsts { KnowsFirsts node.old }
-    ensures value { IfOk result (λ b.
-        b
-        ≡ bounds_from (node_schedule node.old) durations steps (node_state node.old) first 0
-        (no_bounds durations)) }
+    ensures value { IfOk result (λ b. b ≡ bounds_at node.old durations steps first) }
 {
     let mut decision = first;
     let mut passed = 0u64;
@@ -67,7 +63,8 @@ fn bounds_from(
         if passed > MAX_TICK {
             return Ok(told);
         }
-        decision = step(alloc, node, &Reads::Nothing, later, &mut out)?;
+        let next = Next { alloc, later };
+        decision = step(next, &Reads::Nothing, node, &mut out)?;
     }
     Ok(told.unended())
 }

@@ -2,10 +2,12 @@
 
 ghost use Rattle.std.specs.Prelude.{◌≡◌, false};
 ghost use Rattle.zs_bounds.specs.AnswerRange.{range, reset_range};
-ghost use Rattle.zs_bounds.specs.OutputRange.{nothing};
+ghost use Rattle.zs_bounds.specs.OutputRange.{nothing, may_fail, may_pass};
 ghost use Rattle.zs_bounds.specs.DecisionRange.{may_go_on, wait_hull, later_waits, earlier_waits, waits_if, decisions, decision_hull, both_decide, either_decides, test_decides, going_on, no_decision};
 
+use crate::ranges::{may_fail, may_pass};
 use crate::span::Span;
+use zs_term::Test;
 
 // Whether a step may be the last one, and after which waits it may go on, if it may.
 #[derive(Clone, Copy, Debug, PartialEq, Eq)]
@@ -15,24 +17,25 @@ pub(crate) struct Decisions {
 }
 
 impl Decisions {
+    // Those of their two parts.
+    pub(crate) fn new(stops: bool, waits: Option<Span>) -> Decisions
+        ensures value { result ≡ decisions stops waits }
+    {
+        Decisions { stops, waits }
+    }
+
     // No decision at all.
     pub(crate) fn nothing() -> Decisions
         ensures value { result ≡ no_decision }
     {
-        Decisions {
-            stops: false,
-            waits: None,
-        }
+        Decisions::new(false, None)
     }
 
     // Always to go on, after some waits.
     pub(crate) fn always(waits: Option<Span>) -> Decisions
         ensures value { result ≡ decisions false waits }
     {
-        Decisions {
-            stops: false,
-            waits,
-        }
+        Decisions::new(false, waits)
     }
 
     // Whether it may be to go on.
@@ -46,20 +49,18 @@ impl Decisions {
     pub(crate) fn hull(self, other: Decisions) -> Decisions
         ensures value { result ≡ decision_hull self other }
     {
-        Decisions {
-            stops: self.stops || other.stops,
-            waits: wait_hull(self.waits, other.waits),
-        }
+        Decisions::new(
+            self.stops || other.stops,
+            wait_hull(self.waits, other.waits),
+        )
     }
 
     // Those of two that both have to go on.
     pub(crate) fn both(self, other: Decisions) -> Decisions
         ensures value { result ≡ both_decide self other }
     {
-        Decisions {
-            stops: self.stops || other.stops,
-            waits: later_waits(self.waits, other.waits),
-        }
+        let waits = later_waits(self.waits, other.waits);
+        Decisions::new(self.stops || other.stops, waits)
     }
 
     // Those of two of which one has to go on: with the wait of one alone if the other may be done.
@@ -68,20 +69,16 @@ impl Decisions {
     {
         let alone = waits_if(other.stops, self.waits);
         let alone = wait_hull(alone, waits_if(self.stops, other.waits));
-        Decisions {
-            stops: self.stops && other.stops,
-            waits: wait_hull(earlier_waits(self.waits, other.waits), alone),
-        }
+        let waits = wait_hull(earlier_waits(self.waits, other.waits), alone);
+        Decisions::new(self.stops && other.stops, waits)
     }
 
-    // Those under a test, which may pass or fail.
-    pub(crate) fn tested(self, passes: bool, fails: bool) -> Decisions
-        ensures value { result ≡ test_decides passes fails self }
+    // Those under a test of a number of a span, if there is one.
+    pub(crate) fn under(self, test: Test, span: Option<Span>) -> Decisions
+        ensures value { result ≡ test_decides (may_pass test span) (may_fail test span) self }
     {
-        Decisions {
-            stops: self.stops || fails,
-            waits: waits_if(passes, self.waits),
-        }
+        let waits = waits_if(may_pass(test, span), self.waits);
+        Decisions::new(self.stops || may_fail(test, span), waits)
     }
 
     // Those of a part, or of its first step, if it may be reset.
@@ -99,10 +96,7 @@ impl Decisions {
     pub(crate) fn going_on(self) -> Decisions
         ensures value { result ≡ going_on self }
     {
-        Decisions {
-            stops: false,
-            waits: self.waits,
-        }
+        Decisions::new(false, self.waits)
     }
 }
 
@@ -123,10 +117,7 @@ fn later_waits(first: Option<Span>, second: Option<Span>) -> Option<Span>
 {
     let s = first?;
     let t = second?;
-    Some(Span {
-        low: s.low.max(t.low),
-        high: s.high.max(t.high),
-    })
+    Some(Span::new(s.low.max(t.low), s.high.max(t.high)))
 }
 
 // The earlier of two waits, if both go on.
@@ -135,10 +126,7 @@ fn earlier_waits(first: Option<Span>, second: Option<Span>) -> Option<Span>
 {
     let s = first?;
     let t = second?;
-    Some(Span {
-        low: s.low.min(t.low),
-        high: s.high.min(t.high),
-    })
+    Some(Span::new(s.low.min(t.low), s.high.min(t.high)))
 }
 
 // Waits, if a fact holds.

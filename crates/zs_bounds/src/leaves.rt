@@ -5,8 +5,8 @@ ghost use Rattle.std.specs.Prelude.{◌≡◌, ◌*◌, ◌^◌, None, nat_le, n
 ghost use Rattle.zs_term.specs.Saturating.{saturated};
 ghost use Rattle.zs_step.specs.Answer.{fibonacci_number};
 ghost use Rattle.zs_bounds.specs.DecisionRange.{decisions};
-ghost use Rattle.zs_bounds.specs.AnswerRange.{range, leaf_range, span_of, waiting, period_waits, at_once};
-ghost use Rattle.zs_bounds.specs.OutRange.{output_range_of};
+ghost use Rattle.zs_bounds.specs.AnswerRange.{leaf_range, span_of, waiting, period_waits, at_once};
+ghost use Rattle.zs_bounds.specs.OutRange.{answer_range};
 ghost use Rattle.zs_bounds.specs.Leaf.{bare_leaf};
 
 use crate::answers::Answer;
@@ -38,8 +38,7 @@ fn at_once() -> Option<Span>
 
 // The results of a leaf, by its number of steps with this one, and the time since the first one.
 pub(crate) fn leaf_range(leaf: Leaf, steps: Span, time: Span) -> Answer
-    ensures value { range (output_range_of result.0) result.1
-        ≡ leaf_range (bare_leaf leaf) steps time }
+    ensures value { answer_range result ≡ leaf_range (bare_leaf leaf) steps time }
 {
     let earlier = steps.earlier();
     let count = OutRange::Numbers(earlier);
@@ -68,15 +67,13 @@ fn recurring(k: u64, earlier: Span) -> Decisions
     ensures value { result
         ≡ decisions (nat_le k earlier.high) (if nat_lt earlier.low k then at_once else None) }
 {
-    Decisions {
-        stops: k <= earlier.high,
-        waits: if earlier.low < k { at_once() } else { None },
-    }
+    let waits = if earlier.low < k { at_once() } else { None };
+    Decisions::new(k <= earlier.high, waits)
 }
 
 // Results whose output is their delay.
 fn waiting(delays: Span) -> Answer
-    ensures value { range (output_range_of result.0) result.1 ≡ waiting delays }
+    ensures value { answer_range result ≡ waiting delays }
 {
     (
         OutRange::Numbers(delays),

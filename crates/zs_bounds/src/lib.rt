@@ -18,6 +18,7 @@ mod answers;
 mod bounding;
 mod decisions;
 mod durations;
+mod endless;
 mod laws;
 mod leaves;
 mod node;
@@ -30,6 +31,7 @@ mod turns;
 
 pub use bounding::bounds;
 pub use durations::Durations;
+pub use endless::never_gives_up;
 pub use laws::bounds_hold;
 pub use span::MAX_TICK;
 pub use told::Bounds;

@@ -1,18 +1,17 @@
 //! The states in which a schedule may be: intervals in place of a state's numbers.
 
 ghost use Rattle.std.specs.Prelude.{◌≡◌, true, IfOk};
-ghost use Rattle.zs_term.specs.Schedule.{schedule_of, leaf, two, over, and_then, collect_all, reset_when};
+ghost use Rattle.zs_term.specs.Schedule.{schedule_of, leaf, over, reset_when};
 ghost use Rattle.zs_step.specs.Memory.{is_leaf};
-ghost use Rattle.zs_bounds.specs.OutRange.{output_range_of};
-ghost use Rattle.zs_bounds.specs.AnswerRange.{range, any_input};
-ghost use Rattle.zs_bounds.specs.StateRange.{first_range, first_turn, first_state, with_first, more_items, begun};
+ghost use Rattle.zs_bounds.specs.AnswerRange.{any_input};
+ghost use Rattle.zs_bounds.specs.StateRange.{first_state, with_first, more_items};
 ghost use Rattle.zs_bounds.specs.Leaf.{bare_leaf};
-ghost use Rattle.zs_bounds.specs.Node.{node_schedule, node_state, fresh_state, KnowsFirsts, SameNode};
+ghost use Rattle.zs_bounds.specs.Node.{node_begun, node_schedule, node_state, fresh_state, in_turn, IsMade, IsMadeNode, KnowsFirsts, SameNode};
 
-use crate::answers::{Answer, answer_hull, left_range, no_answer, paired, right_range, tested};
+use crate::answers::{Answer, answer_hull, left_range, no_answer, right_range, tested};
 use crate::decisions::Decisions;
 use crate::leaves::{Leaf, leaf_range};
-use crate::ranges::{OutRange, applied, picked_span};
+use crate::ranges::{OutRange, applied, copied, make_pairs, picked_span};
 use crate::span::Span;
 use crate::turns::{Fresh, ResetRule, Turn, Turns};
 use std::alloc::{AllocError, Global};
@@ -75,39 +74,64 @@ pub(crate) fn any_input() -> Option<Span>
     Some(Span::new(0, u64::MAX))
 }
 
-// Some state of a term; `begin` makes it that after the first step.
+// A node after its first step, and what that step may return.
+pub(crate) type Made = (Node, Answer);
+
+// A part of a node, in separate memory, and what its first step may return.
+type MadePart = (Box<Node>, Answer);
+
+// The node of a term after its first step, and what that step may return.
 #[cycle(making)]
-pub(crate) fn node_of(alloc: Global, term: &Term) -> Result<Node, AllocError>
-    ensures made_of { IfOk result (λ n. node_schedule n ≡ schedule_of term.now) }
-    ensures firsts { IfOk result KnowsFirsts }
+pub(crate) fn node_of(alloc: Global, term: &Term) -> Result<Made, AllocError>
+    ensures made { IfOk result (λ r. IsMade (schedule_of term.now) r.0 r.1) }
 {
     match term {
         Term::Both(a, b) => {
-            let (first, second) = (part(alloc, a)?, part(alloc, b)?);
-            Ok(Node::Both { first, second })
+            let ((first, x), (second, y)) = (part(alloc, a)?, part(alloc, b)?);
+            let answer = (make_pairs(alloc, x.0, y.0)?, x.1.both(y.1));
+            Ok((Node::Both { first, second }, answer))
         }
         Term::Either(a, b) => {
-            let (first, second) = (part(alloc, a)?, part(alloc, b)?);
-            Ok(Node::Either { first, second })
+            let ((first, x), (second, y)) = (part(alloc, a)?, part(alloc, b)?);
+            let answer = (make_pairs(alloc, x.0, y.0)?, x.1.either(y.1));
+            Ok((Node::Either { first, second }, answer))
         }
-        Term::AndThen(a, b) => {
-            let (first, second) = (part(alloc, a)?, part(alloc, b)?);
-            in_turn(alloc, first, second)
+        Term::AndThen(a, b) => in_turn(alloc, part(alloc, a)?, part(alloc, b)?),
+        Term::WhileInput(s, test) => {
+            let (part, x) = part(alloc, s)?;
+            let test = *test;
+            Ok((
+                Node::WhileInput { part, test },
+                tested(test, any_input(), x),
+            ))
         }
-        Term::WhileInput(s, test) => Ok(Node::WhileInput {
-            part: part(alloc, s)?,
-            test: *test,
-        }),
-        Term::WhileOutput(s, pick, test) => Ok(Node::WhileOutput {
-            part: part(alloc, s)?,
-            pick: *pick,
-            test: *test,
-        }),
-        Term::CollectAll(s) => collected(alloc, part(alloc, s)?),
-        Term::Map(s, func) => Ok(Node::Map {
-            part: part(alloc, s)?,
-            func: *func,
-        }),
+        Term::WhileOutput(s, pick, test) => {
+            let (part, x) = part(alloc, s)?;
+            let (pick, test) = (*pick, *test);
+            let span = picked_span(pick, &x.0);
+            Ok((
+                Node::WhileOutput { part, pick, test },
+                tested(test, span, x),
+            ))
+        }
+        Term::CollectAll(s) => {
+            let (part, (_out, begins)) = part(alloc, s)?;
+            let none = Span::one(0);
+            let items = more_items(begins, none);
+            Ok((
+                Node::CollectAll {
+                    part,
+                    begins,
+                    items,
+                },
+                (OutRange::Lists(none), begins),
+            ))
+        }
+        Term::Map(s, func) => {
+            let (part, (out, decision)) = part(alloc, s)?;
+            let func = *func;
+            Ok((Node::Map { part, func }, (applied(func, out), decision)))
+        }
         Term::ResetWhen(s, pick, test) => {
             let rule = ResetRule {
                 pick: *pick,
@@ -115,133 +139,74 @@ pub(crate) fn node_of(alloc: Global, term: &Term) -> Result<Node, AllocError>
             };
             resettable(alloc, part(alloc, s)?, rule)
         }
-        _ => Ok(Node::Leaf {
-            leaf: leaf_of(term),
-            steps: Span::one(1),
-            time: Span::one(0),
-        }),
+        _ => {
+            let leaf = leaf_of(term);
+            let (steps, time) = (Span::one(1), Span::one(0));
+            Ok((
+                Node::Leaf { leaf, steps, time },
+                leaf_range(leaf, steps, time),
+            ))
+        }
     }
 }
 
-// The state of a part, in separate memory.
+// The node of a part.
 #[cycle(making)]
-fn part(alloc: Global, term: &Term) -> Result<Box<Node>, AllocError>
-    ensures made_of { IfOk result (λ n. node_schedule n.value ≡ schedule_of term.now) }
-    ensures firsts { IfOk result (λ n. KnowsFirsts n.value) }
+fn part(alloc: Global, term: &Term) -> Result<MadePart, AllocError>
+    ensures made { IfOk result (λ r. IsMade (schedule_of term.now) r.0.value r.1) }
 {
-    Ok(Box::new(alloc, node_of(alloc, term)?)?)
+    let (node, answer) = node_of(alloc, term)?;
+    Ok((Box::new(alloc, node)?, answer))
 }
 
 // Two parts in turn.
-fn in_turn(alloc: Global, first: Box<Node>, second: Box<Node>) -> Result<Node, AllocError>
-    requires first_knows { KnowsFirsts first.value }
-    requires second_knows { KnowsFirsts second.value }
-    ensures made_of { IfOk result (λ n.
-        node_schedule n ≡ two and_then (node_schedule first.value) (node_schedule second.value)) }
-    ensures firsts { IfOk result KnowsFirsts }
+fn in_turn(alloc: Global, first: MadePart, second: MadePart) -> Result<Made, AllocError>
+    requires first { IsMadeNode first.0.value first.1 }
+    requires second { IsMadeNode second.0.value second.1 }
+    ensures made { IfOk result (λ r.
+        IsMade (in_turn first.0.value second.0.value) r.0 r.1) }
 {
-    let (_out, decision) = first_range(alloc, &first)?;
-    let (start, begins) = first_range(alloc, &second)?;
-    let turns = Turns {
-        first: Turn::of(decision),
-        second: Turn::of(begins),
-        start,
-        made: OutRange::Nothing,
-    };
-    Ok(Node::AndThen {
-        turns,
-        first,
-        second,
-    })
-}
-
-// A part whose outputs are collected.
-fn collected(alloc: Global, part: Box<Node>) -> Result<Node, AllocError>
-    requires knows { KnowsFirsts part.value }
-    ensures made_of { IfOk result (λ n.
-        node_schedule n ≡ over (node_schedule part.value) collect_all) }
-    ensures firsts { IfOk result KnowsFirsts }
-{
-    let (_out, begins) = first_range(alloc, &part)?;
-    Ok(Node::CollectAll {
-        part,
-        begins,
-        items: Span::one(0),
-    })
-}
-
-// A part that may be reset.
-fn resettable(alloc: Global, part: Box<Node>, rule: ResetRule) -> Result<Node, AllocError>
-    requires knows { KnowsFirsts part.value }
-    ensures made_of { IfOk result (λ n.
-        node_schedule n ≡ over (node_schedule part.value) (reset_when rule.pick rule.test)) }
-    ensures firsts { IfOk result KnowsFirsts }
-{
-    let (start, begins) = first_range(alloc, &part)?;
-    Ok(Node::ResetWhen {
-        part,
-        rule,
-        begins,
-        start,
-    })
-}
-
-// What the first step may return.
-#[cycle(beginning)]
-pub(crate) fn first_range(alloc: Global, node: &Node) -> Result<Answer, AllocError>
-    ensures value { IfOk result (λ r.
-        range (output_range_of r.0) r.1 ≡ first_range (node_schedule node.now)) }
-{
-    match node {
-        Node::Leaf { leaf, .. } => Ok(leaf_range(*leaf, Span::one(1), Span::one(0))),
-        Node::Both { first, second } => {
-            let (x, y) = (first_range(alloc, first)?, first_range(alloc, second)?);
-            let decision = x.1.both(y.1);
-            paired(alloc, x.0, y.0, decision)
-        }
-        Node::Either { first, second } => {
-            let (x, y) = (first_range(alloc, first)?, first_range(alloc, second)?);
-            let decision = x.1.either(y.1);
-            paired(alloc, x.0, y.0, decision)
-        }
-        Node::AndThen { first, second, .. } => first_turn(alloc, first, second),
-        Node::WhileInput { part, test } => {
-            Ok(tested(*test, any_input(), first_range(alloc, part)?))
-        }
-        Node::WhileOutput { part, pick, test } => {
-            let x = first_range(alloc, part)?;
-            let span = picked_span(*pick, &x.0);
-            Ok(tested(*test, span, x))
-        }
-        Node::CollectAll { part, .. } => {
-            let (_out, decision) = first_range(alloc, part)?;
-            Ok((OutRange::Lists(Span::one(0)), decision))
-        }
-        Node::Map { part, func } => {
-            let (out, decision) = first_range(alloc, part)?;
-            Ok((applied(*func, out), decision))
-        }
-        Node::ResetWhen { part, .. } => first_range(alloc, part),
-    }
-}
-
-// What the first step of two parts in turn may return.
-#[cycle(beginning)]
-fn first_turn(alloc: Global, first: &Node, second: &Node) -> Result<Answer, AllocError>
-    ensures value { IfOk result (λ r.
-        range (output_range_of r.0) r.1
-        ≡ first_turn (first_range (node_schedule first.now))
-        (first_range (node_schedule second.now))) }
-{
-    let x = first_range(alloc, first)?;
-    let begins = x.1.stops;
+    let ((first, x), (second, (start, begins))) = (first, second);
+    let decision = x.1;
     let left = left_range(alloc, x)?;
-    let right = if begins {
-        right_range(alloc, first_range(alloc, second)?)?
+    let right = if decision.stops {
+        right_range(alloc, (copied(alloc, &start)?, begins))?
     } else {
         no_answer()
     };
-    Ok(answer_hull(left, right))
+    let turns = Turns {
+        first: Turn::first(decision.may_go_on(), decision),
+        second: Turn::first(decision.stops, begins),
+        start,
+        made: OutRange::Nothing,
+    };
+    Ok((
+        Node::AndThen {
+            turns,
+            first,
+            second,
+        },
+        answer_hull(left, right),
+    ))
+}
+
+// A part that may be reset.
+fn resettable(alloc: Global, made: MadePart, rule: ResetRule) -> Result<Made, AllocError>
+    requires part { IsMadeNode made.0.value made.1 }
+    ensures made { IfOk result (λ r.
+        IsMade (over (node_schedule made.0.value) (reset_when rule.pick rule.test)) r.0 r.1) }
+{
+    let (part, (start, begins)) = made;
+    let out = copied(alloc, &start)?;
+    Ok((
+        Node::ResetWhen {
+            part,
+            rule,
+            begins,
+            start,
+        },
+        (out, begins),
+    ))
 }
 
 // One more item at a step that goes on.
@@ -262,7 +227,7 @@ pub(crate) fn more_items(decision: Decisions, items: Span) -> Span
 }
 
 // Makes a state that after the first step.
-pub(crate) fn begin(node: &mut Node)
+fn begin(node: &mut Node)
     requires firsts { KnowsFirsts node.old }
     ensures state { node_state node.new ≡ first_state (node_schedule node.old) }
     ensures same { SameNode node.old node.new }
@@ -282,8 +247,8 @@ pub(crate) fn begin(node: &mut Node)
         }
         Node::AndThen { turns, .. } => {
             let decision = turns.first.begins;
-            turns.first = turns.first.begin(decision.may_go_on());
-            turns.second = turns.second.begin(decision.stops);
+            turns.first = Turn::first(decision.may_go_on(), decision);
+            turns.second = Turn::first(decision.stops, turns.second.begins);
         }
         Node::CollectAll {
             part,
@@ -302,7 +267,7 @@ pub(crate) fn begin(node: &mut Node)
 
 // Adds the state after the first step to those of a node.
 #[tactic(auto, using(crate::proofs::Fresh::fresh_begun))]
-pub(crate) fn widen(node: &mut Node)
+fn widen(node: &mut Node)
     requires firsts { KnowsFirsts node.old }
     ensures state { node_state node.new
         ≡ with_first (node_schedule node.old) (node_state node.old) }
@@ -345,9 +310,7 @@ pub(crate) fn widen(node: &mut Node)
 // state if the part was not on.
 pub(crate) fn add_first(begins: bool, is_on: bool, node: &mut Node)
     requires firsts { KnowsFirsts node.old }
-    ensures state { node_state node.new
-        ≡ begun begins is_on (with_first (node_schedule node.old) (node_state node.old))
-        (first_state (node_schedule node.old)) (node_state node.old) }
+    ensures state { node_state node.new ≡ node_begun begins is_on node.old }
     ensures same { SameNode node.old node.new }
 {
     if !begins {

@@ -2,8 +2,8 @@
 
 ghost use Rattle.std.specs.Prelude.{◌≡◌, IfOk, OnOk};
 ghost use Rattle.zs_bounds.specs.OutRange.{output_range_of};
-ghost use Rattle.zs_bounds.specs.OutputRange.{output_hull, sides, applied_range};
-ghost use Rattle.zs_bounds.specs.Reads.{unread, whole, want_of, Shows, range_if, reset_output, with_pick, first_want, second_want, side_want, map_want};
+ghost use Rattle.zs_bounds.specs.OutputRange.{output_hull, applied_range};
+ghost use Rattle.zs_bounds.specs.Reads.{unread, whole, want_of, Shows, ShowsHull, ShowsReset, ShowsSides, range_if, with_pick, first_want, second_want, side_want, map_want};
 
 use crate::ranges::{OutRange, applied, copied, join, make_pairs, make_sides};
 use std::alloc::{AllocError, Global};
@@ -112,12 +112,8 @@ impl<'a> Reads<'a> {
         ensures value { Shows self.now range.new
             (applied_range func (output_range_of range.old)) }
     {
-        match self {
-            Reads::Nothing => {}
-            Reads::Whole | Reads::Parts(_, _) | Reads::Sides(_) => {
-                *range = applied(func, replace(range, OutRange::Nothing))
-            }
-        }
+        let made = applied(func, replace(range, OutRange::Nothing));
+        self.put(made, range)
     }
 
     // Joins another range, if a fact holds.
@@ -130,9 +126,7 @@ impl<'a> Reads<'a> {
         other: &OutRange,
     ) -> Result<(), AllocError>
         ensures value { OnOk result
-            (Shows self.now range.new
-            (output_hull (output_range_of range.old)
-            (range_if holds (output_range_of other.now)))) }
+            (ShowsHull self.now range.old (range_if holds (output_range_of other.now)) range.new) }
     {
         if !holds {
             return Ok(());
@@ -150,8 +144,7 @@ impl<'a> Reads<'a> {
         first: &OutRange,
     ) -> Result<(), AllocError>
         ensures value { OnOk result
-            (Shows self.now out.new
-            (reset_output passes fails (output_range_of out.old) (output_range_of first.now))) }
+            (ShowsReset self.now passes fails out.old first.now out.new) }
     {
         if !passes {
             return Ok(());
@@ -171,9 +164,7 @@ impl<'a> Reads<'a> {
         left: &mut OutRange,
         right: &mut OutRange,
     ) -> Result<(), AllocError>
-        ensures value { OnOk result
-            (Shows self.now left.new
-            (range_if is_any (sides (output_range_of left.old) (output_range_of right.old)))) }
+        ensures value { OnOk result (ShowsSides self.now is_any left.old right.old left.new) }
     {
         if let Reads::Nothing = self {
             return Ok(());
@@ -223,8 +214,8 @@ pub(crate) fn join_read(
     range: &mut OutRange,
     other: &OutRange,
 ) -> Result<(), AllocError>
-    ensures value { OnOk result (Shows reads.now range.new
-        (output_hull (output_range_of range.old) (output_range_of other.now))) }
+    ensures value { OnOk result
+        (ShowsHull reads.now range.old (output_range_of other.now) range.new) }
 {
     match reads {
         Reads::Nothing => Ok(()),
@@ -262,8 +253,7 @@ pub(crate) fn join_read(
 
 // Widens a range by a copy of another one.
 fn join_copy(alloc: Global, range: &mut OutRange, other: &OutRange) -> Result<(), AllocError>
-    ensures value { OnOk result
-        (output_range_of range.new
+    ensures value { OnOk result (output_range_of range.new
         ≡ output_hull (output_range_of range.old) (output_range_of other.now)) }
 {
     join(range, copied(alloc, other)?);

@@ -30,59 +30,42 @@ impl Span {
     pub(crate) fn one(number: u64) -> Span
         ensures value { result ≡ span number number }
     {
-        Span {
-            low: number,
-            high: number,
-        }
+        Span::new(number, number)
     }
 
     // The least span around both.
     pub(crate) fn hull(self, other: Span) -> Span
         ensures value { result ≡ hull self other }
     {
-        Span {
-            low: self.low.min(other.low),
-            high: self.high.max(other.high),
-        }
+        Span::new(self.low.min(other.low), self.high.max(other.high))
     }
 
     // Each number with one less: of steps, the earlier ones.
     pub(crate) fn earlier(self) -> Span
         ensures value { result ≡ earlier_steps self }
     {
-        Span {
-            low: self.low.saturating_sub(1),
-            high: self.high.saturating_sub(1),
-        }
+        Span::new(self.low.saturating_sub(1), self.high.saturating_sub(1))
     }
 
     // One step more.
     pub(crate) fn more_steps(self) -> Span
         ensures value { result ≡ more_steps self }
     {
-        Span {
-            low: self.low.saturating_add(1),
-            high: self.high.saturating_add(1),
-        }
+        Span::new(self.low.saturating_add(1), self.high.saturating_add(1))
     }
 
     // Some more time, and at most a whole clock.
     pub(crate) fn more_time(self, later: Span) -> Span
         ensures value { result ≡ more_time later self }
     {
-        Span {
-            low: self.low.saturating_add(later.low),
-            high: self.high.saturating_add(later.high).min(MAX_TICK),
-        }
+        let high = self.high.saturating_add(later.high).min(MAX_TICK);
+        Span::new(self.low.saturating_add(later.low), high)
     }
 
     // The waits for a delay: a moment that would be too great is cut.
     pub(crate) fn delays(self) -> Option<Span>
         ensures value { result ≡ delays self }
     {
-        Some(Span {
-            low: self.low.min(UNCUT_WAIT),
-            high: self.high,
-        })
+        Some(Span::new(self.low.min(UNCUT_WAIT), self.high))
     }
 }

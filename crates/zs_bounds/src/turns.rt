@@ -1,7 +1,7 @@
 //! Two parts in turn, what their states still lack, and when a part is reset.
 
-ghost use Rattle.std.specs.Prelude.{◌≡◌, ◌||◌, false};
-ghost use Rattle.zs_bounds.specs.Node.{fresh_added, turn_of};
+ghost use Rattle.std.specs.Prelude.{◌≡◌, ◌||◌};
+ghost use Rattle.zs_bounds.specs.Node.{fresh_added, turn_added, turn_of};
 ghost use Rattle.zs_bounds.specs.declared.turns.Fresh.TheVariants.{Nothing, Alone};
 
 use crate::decisions::Decisions;
@@ -53,33 +53,20 @@ pub(crate) struct ResetRule {
 }
 
 impl Turn {
-    // A part that is not on.
-    pub(crate) fn of(begins: Decisions) -> Turn
-        ensures value { result ≡ turn_of false begins Nothing }
-    {
-        Turn {
-            is_on: false,
-            begins,
-            fresh: Fresh::Nothing,
-        }
-    }
-
     // A part that is only at its first step, if it may be on.
-    pub(crate) fn begin(self, is_on: bool) -> Turn
-        ensures value { result ≡ turn_of is_on self.begins Alone }
+    pub(crate) fn first(is_on: bool, begins: Decisions) -> Turn
+        ensures value { result ≡ turn_of is_on begins Alone }
     {
         Turn {
             is_on,
-            begins: self.begins,
+            begins,
             fresh: Fresh::Alone,
         }
     }
 
     // A part that may also be at its first step, if it may begin.
     pub(crate) fn add_first(self, begins: bool) -> Turn
-        ensures value { result
-            ≡ turn_of (self.is_on || begins) self.begins
-            (fresh_added begins self.is_on self.fresh) }
+        ensures value { result ≡ turn_added begins self }
     {
         Turn {
             is_on: self.is_on || begins,

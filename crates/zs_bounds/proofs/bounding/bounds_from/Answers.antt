@@ -14,9 +14,9 @@ loop-preserved c =
           c.loop.passed c.saturating_add-passed.result c.time_between-later.result c.loop.told c.with_step-told.result
           (bounds_from (node_schedule c.args.node.now) c.args.durations c.args.steps (node_state c.args.node.now) c.args.first 0 (no_bounds c.args.durations))
           c.in-Some.wait c.loop-test.true c.in-Some.is c.time_between-later.ensures.value c.saturating_add-passed.ensures
-          c.if-passed-gt-MAX_TICK.false c.in_ok-decision.ensures.same.0 c.in_ok-decision.ensures.state
-          c.in_ok-decision.ensures.decision c.with_step-told.ensures.value c.loop.invariant.told;
+          c.if-passed-gt-MAX_TICK.false c.in_ok-decision.ensures.moves.same.0 c.in_ok-decision.ensures.moves.state
+          c.in_ok-decision.ensures.gives.decision c.with_step-told.ensures.value c.loop.invariant.told;
       seen = omega (arith, seen, c.loop.invariant.seen);
       passed = c.if-passed-gt-MAX_TICK.false;
-      firsts = c.in_ok-decision.ensures.same.1 ∙ c.loop.invariant.firsts ∙ sym (ap firsts_of c.in_ok-decision.ensures.same.0);
+      firsts = c.in_ok-decision.ensures.moves.same.1 ∙ c.loop.invariant.firsts ∙ sym (ap firsts_of c.in_ok-decision.ensures.moves.same.0);
     }
