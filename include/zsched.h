@@ -11,7 +11,8 @@
  *
  * The caller must ensure what no call can test:
  *   - Each pointer points to as much memory as the number beside it says; zs_seen, zs_reply and words are aligned as C aligns
- *     them. If the number is 0, the pointer may be NULL. `reply`, `bounds`, `at`, `size` and `state_size` are never NULL.
+ *     them. If the number is 0, the pointer may be NULL. `durations`, `reply`, `bounds`, `at`, `size` and `state_size` are
+ *     never NULL.
  *   - `reply`, `bounds`, `at`, `size`, `state_size`, `state`, `out` and the words that zs_compile writes overlap nothing else
  *     that is passed to the call, and no other thread writes to any of it during the call.
  *   - No call comes from a signal handler, or from a forked child of a process with threads. 64 KiB of stack are free (the
@@ -49,6 +50,7 @@ enum zs_number {
     ZS_NO_ROOM = 7,     /* calls over a program: a length is below the size from zs_program_size */
     ZS_NO_PROGRAM = 8,  /* zs_program_begin, zs_program_step: the words aren't a program of this version, or were changed */
     ZS_OTHER_STATE = 9, /* zs_program_step: the words are the state of another program, or of none */
+    ZS_NO_DURATION = 10, /* zs_bounds: the least duration is 0, or above the most */
     ZS_NO_TERM = 11,    /* the text spells no schedule, found at the byte `at` */
     ZS_TOO_BIG = 12,    /* the schedule is deeper than 64 or weighs more than 1000 */
     ZS_BAD_NUMBER = 13, /* the number that begins at the byte `at` is above 18446744073709551615 */
@@ -71,6 +73,13 @@ typedef struct zs_reply {
     uint64_t at;     /* the place of an error */
 } zs_reply;
 
+/* How long each attempt takes, in milliseconds. {1, 0, 0} is any time. */
+typedef struct zs_durations {
+    uint64_t least;    /* no attempt takes less: 1 or more */
+    uint64_t has_most; /* 0 if there is no most, else 1 */
+    uint64_t most;     /* no attempt takes more: `least` or more */
+} zs_durations;
+
 /* What zs_bounds returns. A field without a meaning is 0. */
 struct zs_bounds {
     uint64_t seen;      /* the number of steps that were looked at */
@@ -80,6 +89,8 @@ struct zs_bounds {
     uint64_t longest;   /* the longest wait after the first `seen` attempts, in milliseconds */
     uint64_t has_total; /* 1 if `total` is a bound, else 0 */
     uint64_t total;     /* all waits of a run together, in milliseconds, at most */
+    uint64_t has_longest_run; /* 1 if `longest_run` is a bound, else 0 */
+    uint64_t longest_run;     /* each attempt ends at most this long after the begin of the first, in milliseconds */
 };
 
 /* Whether a text is a schedule: ZS_NEXT (0), or the number of its first fault, from ZS_NOT_UTF8 on, in the order of enum
@@ -97,13 +108,15 @@ uint32_t zs_check(const uint8_t *text, size_t text_len, uint64_t *at);
 uint32_t zs_answer(const uint8_t *text, size_t text_len, const zs_seen *seen, size_t seen_len, zs_reply *reply,
                    uint8_t *out, size_t out_len);
 
-/* What a text's schedule does for every input, however long attempts take: ZS_NEXT (0). It looks at the first `steps`
- * attempts, or at fewer if the schedule is done by then. Otherwise it returns what zs_check returns for the text, with its
- * place, and all of *bounds is 0. So a service can reject a policy that never gives up, or that may wait too long.
+/* What a text's schedule does for every input, if attempts take as long as *durations says: ZS_NEXT (0). It looks at the
+ * first `steps` attempts, or at fewer if the schedule is done by then. Otherwise it returns ZS_NO_DURATION, or what zs_check
+ * returns for the text, with its place, and all of *bounds is 0. So a service can reject a policy that never gives up, or whose
+ * calls may outlast a deadline.
  *
- * The bounds hold for all pairs in which each attempt takes 1 millisecond or more, and no moment is above 999999999999999.
+ * The bounds hold for all pairs in which no moment is above 999999999999999. `longest_run` needs a most of durations.
  * The time grows with the steps and with the schedule: 1000 steps of one with 400 leaves took 56 milliseconds. */
-uint32_t zs_bounds(const uint8_t *text, size_t text_len, uint64_t steps, struct zs_bounds *bounds, uint64_t *at);
+uint32_t zs_bounds(const uint8_t *text, size_t text_len, const zs_durations *durations, uint64_t steps, struct zs_bounds *bounds,
+                   uint64_t *at);
 
 /* Steps over a program and its state, in the caller's memory, in place of the text and the list of pairs.
  *

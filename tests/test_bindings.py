@@ -108,7 +108,7 @@ def test_what_fails_at_once_is_retried_within_the_bounds_of_its_policy(client, n
     bounds = client("C").says(request("bounds", text, 1000) for text in PROMISED)
     lines = client(name).says(request("retry", text, 7, 10 ** 6) for text in PROMISED)
     for text, line, promised in zip(PROMISED, lines, bounds, strict=True):
-        _, _, least, _, most, longest, _, total, _ = map(int, promised.split())
+        _, _, least, _, most, longest, _, total, *_ = map(int, promised.split())
         ended, *moments = line.split()
         waits = [(int(after) - int(before)) / 1000 - 1 for before, after in zip(moments, moments[1:])]
         assert ended == "7" and least <= len(moments) <= most, text
@@ -140,7 +140,9 @@ def test_calls_share_a_budget(client, name):
 
 @pytest.mark.parametrize("name", named(*BOUND))
 def test_bounds_are_those_that_were_worked_out_by_hand(client, name):
-    assert client(name).says(request("bounds", text, 1000) for text in BOUNDS) == list(BOUNDS.values())
+    for place, more in enumerate([(), (1, 5000)]):
+        assert client(name).says(request("bounds", text, 1000, *more) for text in BOUNDS) == [it[place] for it in BOUNDS.values()]
+    assert client(name).says([request("bounds", "recurs(1)", 9, 6, 5)]) == ["10,0,no attempt takes these durations"]
     assert client(name).says(request("bounds", text.decode(), 9) for text in FAULTS) == list(FAULTS.values())
 
 

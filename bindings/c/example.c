@@ -60,6 +60,16 @@ static uint64_t attempt(void *data)
     return code == 200 ? 0 : (uint64_t)code;
 }
 
+/* Whether each call ends within 2 s for every input, if an attempt takes at most 200 ms. */
+static int ends_in_time(void)
+{
+    const zs_durations attempts = {.least = 1, .has_most = 1, .most = 200};
+    struct zs_bounds bounds;
+    uint64_t at;
+    uint32_t number = zs_bounds((const uint8_t *)POLICY, strlen(POLICY), &attempts, 1000, &bounds, &at);
+    return number == ZS_NEXT && bounds.has_longest_run && bounds.longest_run <= 2000;
+}
+
 int main(void)
 {
     struct call call = {"", 0};
@@ -68,7 +78,7 @@ int main(void)
     socklen_t length = sizeof address;
     int listening = socket(AF_INET, SOCK_STREAM, 0);
     address.sin_addr.s_addr = htonl(INADDR_LOOPBACK);
-    if (listening < 0 || bind(listening, (struct sockaddr *)&address, sizeof address) || listen(listening, 8) ||
+    if (!ends_in_time() || listening < 0 || bind(listening, (struct sockaddr *)&address, sizeof address) || listen(listening, 8) ||
         getsockname(listening, (struct sockaddr *)&address, &length) || pthread_create(&server, NULL, serve, &listening))
         return 2;
     clock_gettime(CLOCK_MONOTONIC, &begun);

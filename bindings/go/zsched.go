@@ -75,8 +75,12 @@ func Check(text string) error {
 	return errorOf(C.zs_check(bytesOf(data), C.size_t(len(data)), &at), at)
 }
 
-// Bounds is what a schedule does for every input and however long attempts take, if each attempt
-// takes 1 millisecond or more and no moment is above 999999999999999. Times are in milliseconds.
+// Attempt is how long each attempt takes, in milliseconds: Least is 1 or more, and a Most of 0 is no
+// limit.
+type Attempt struct{ Least, Most uint64 }
+
+// Bounds is what a schedule does for every input, if each attempt takes as long as was given and no
+// moment is above 999999999999999. Times are in milliseconds.
 type Bounds struct {
 	// Seen is the number of attempts that were examined.
 	Seen uint64
@@ -92,15 +96,33 @@ type Bounds struct {
 	HasTotal bool
 	// Total is all waits together at most, or 0 without HasTotal.
 	Total uint64
+	// HasLongestRun is false if there is no bound for the time of a call.
+	HasLongestRun bool
+	// LongestRun is when each attempt ends at most, from the begin of the first, or 0 without
+	// HasLongestRun.
+	LongestRun uint64
 }
 
 // BoundsOf returns the bounds of a text's schedule, of which at most the first `steps` attempts are
-// examined, or a *Fault.
-func BoundsOf(text string, steps uint64) (Bounds, error) {
-	data, found, at := []byte(text), C.struct_zs_bounds{}, C.uint64_t(0)
-	number := C.zs_bounds(bytesOf(data), C.size_t(len(data)), C.uint64_t(steps), &found, &at)
+// examined, or a *Fault. Without an Attempt each attempt takes 1 millisecond or more; the last one
+// counts.
+func BoundsOf(text string, steps uint64, attempts ...Attempt) (Bounds, error) {
+	data, found, at, durations := []byte(text), C.struct_zs_bounds{}, C.uint64_t(0), C.zs_durations{least: 1}
+	for _, attempt := range attempts {
+		durations = C.zs_durations{least: C.uint64_t(attempt.Least), most: C.uint64_t(attempt.Most)}
+		if attempt.Most > 0 {
+			durations.has_most = 1
+		}
+	}
+	number := C.zs_bounds(bytesOf(data), C.size_t(len(data)), &durations, C.uint64_t(steps), &found, &at)
 	return Bounds{uint64(found.seen), uint64(found.least), found.has_most == 1, uint64(found.most),
-		uint64(found.longest), found.has_total == 1, uint64(found.total)}, errorOf(number, at)
+		uint64(found.longest), found.has_total == 1, uint64(found.total),
+		found.has_longest_run == 1, uint64(found.longest_run)}, errorOf(number, at)
+}
+
+// EndsWithin returns whether each call ends within `run` milliseconds, attempts and waits together.
+func (bounds Bounds) EndsWithin(run uint64) bool {
+	return bounds.HasLongestRun && bounds.LongestRun <= run
 }
 
 // Within returns whether there are at most `most` attempts, and `total` milliseconds of waits

@@ -87,16 +87,16 @@ static napi_value answer(napi_env env, napi_callback_info info)
     return result(env, zs_answer(text.data, text.length, seen.data, seen.length / 2, reply.data, out.data, out.length));
 }
 
-/* bounds(text, steps, found, at): found has the seven fields of struct zs_bounds */
+/* bounds(text, durations, steps, found, at): durations has the three fields of zs_durations, found the nine of struct zs_bounds */
 static napi_value bounds(napi_env env, napi_callback_info info)
 {
     napi_value given[MOST];
-    span text, found, at;
+    span text, durations, found, at;
     uint64_t steps;
-    if (!arguments(env, info, 4, given) || !bytes(env, given[0], &text) || !number(env, given[1], &steps) ||
-        !words(env, given[2], 7, &found) || !words(env, given[3], 1, &at))
+    if (!arguments(env, info, 5, given) || !bytes(env, given[0], &text) || !words(env, given[1], 3, &durations) ||
+        !number(env, given[2], &steps) || !words(env, given[3], 9, &found) || !words(env, given[4], 1, &at))
         return NULL;
-    return result(env, zs_bounds(text.data, text.length, steps, found.data, at.data));
+    return result(env, zs_bounds(text.data, text.length, durations.data, steps, found.data, at.data));
 }
 
 /* programSize(text, size, stateSize, at) */

@@ -64,7 +64,7 @@ export class Stepper {
 /** Throws a Fault if the text, a string or its bytes, is no schedule. */
 export function check(text: string | Uint8Array): void;
 
-/** What a schedule does for every input and however long attempts take; times in milliseconds. */
+/** What a schedule does for every input; times in milliseconds. */
 export class Bounds {
   /** The number of attempts that were examined. */
   readonly seen: bigint;
@@ -76,16 +76,25 @@ export class Bounds {
   readonly longest: bigint;
   /** All waits together at most, or null if there is no bound. */
   readonly total: bigint | null;
+  /** When each attempt ends at most, from the begin of the first, or null if there is no bound. */
+  readonly longestRun: bigint | null;
   /** Whether there are at most `most` attempts, and `total` ms of waits together. */
   within(most: bigint | number, total: bigint | number): boolean;
+  /** Whether each call ends within `run` ms, attempts and waits together. */
+  endsWithin(run: bigint | number): boolean;
 }
 
 /**
  * Returns the Bounds of a schedule, of which at most the first `steps` attempts are examined: 1000
- * without a number. They hold if each attempt takes 1 ms or more, and no moment is above
- * 999999999999999. Throws a Fault if the text is no schedule.
+ * without a number. They hold if each attempt takes the least to the most milliseconds of `attempt`
+ * (1 or more without it), and no moment is above 999999999999999. Throws a Fault if the text is no
+ * schedule, or if no attempt takes so long.
  */
-export function bounds(text: string | Uint8Array, steps?: bigint | number): Bounds;
+export function bounds(
+  text: string | Uint8Array,
+  steps?: bigint | number,
+  attempt?: [least: bigint | number, most?: bigint | number | null],
+): Bounds;
 
 /**
  * Tokens that many calls share, as in gRPC's retry throttling. A failed attempt takes a token, and one

@@ -82,15 +82,21 @@ class Budget {
   }
 }
 
-/** What a schedule does for every input: `most` and `total` are null if there is no bound. */
+/** What a schedule does for every input: `most`, `total` and `longestRun` are null if there is no bound. */
 class Bounds {
-  constructor([seen, least, hasMost, most, longest, hasTotal, total]) {
+  constructor([seen, least, hasMost, most, longest, hasTotal, total, hasLongestRun, longestRun]) {
     Object.assign(this, { seen, least, most: hasMost ? most : null, longest, total: hasTotal ? total : null });
+    this.longestRun = hasLongestRun ? longestRun : null;
   }
 
   /** Whether there are at most `most` attempts, and `total` ms of waits together. */
   within(most, total) {
     return this.most !== null && this.most <= most && this.total !== null && this.total <= total;
+  }
+
+  /** Whether each call ends within `run` ms, attempts and waits together. */
+  endsWithin(run) {
+    return this.longestRun !== null && this.longestRun <= run;
   }
 }
 
@@ -122,9 +128,10 @@ function check(text) {
 }
 
 /** Returns the Bounds of a schedule, of which at most the first `steps` attempts are examined. */
-function bounds(text, steps = 1000) {
-  const [found, at] = [new BigUint64Array(7), new BigUint64Array(1)];
-  throwFault(calls.bounds(Buffer.from(text), unsigned(steps), found, at), at[0]);
+function bounds(text, steps = 1000, [least, most = null] = [1]) {
+  const [found, at] = [new BigUint64Array(9), new BigUint64Array(1)];
+  const durations = BigUint64Array.of(unsigned(least), most === null ? 0n : 1n, unsigned(most ?? 0));
+  throwFault(calls.bounds(Buffer.from(text), durations, unsigned(steps), found, at), at[0]);
   return new Bounds(found);
 }
 

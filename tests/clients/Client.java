@@ -66,10 +66,11 @@ public final class Client {
         });
     }
 
-    private static void bounds(String text, long steps, List<Object> said) {
-        Schedule.Bounds found = Schedule.bounds(text, steps);
+    private static void bounds(String text, long[] numbers, List<Object> said) {
+        Schedule.Bounds found = numbers.length == 1 ? Schedule.bounds(text, numbers[0])
+            : Schedule.bounds(text, numbers[0], Duration.ofMillis(numbers[1]), Duration.ofMillis(numbers[2]));
         said.addAll(List.of(found.seen(), found.least(), found.most().isPresent() ? 1 : 0, found.most().orElse(0), found.longest(),
-            found.total().isPresent() ? 1 : 0, found.total().orElse(0)));
+            found.total().isPresent() ? 1 : 0, found.total().orElse(0), found.longestRun().isPresent() ? 1 : 0, found.longestRun().orElse(0)));
     }
 
     private static void many(String text, long count) {
@@ -89,7 +90,7 @@ public final class Client {
             case "version" -> said.add(Schedule.version());
             case "moved" -> Stepper.resume(lines[1], new Stepper(lines[0]).state());
             case "retry" -> retry(text, numbers, said);
-            case "bounds" -> bounds(text, numbers[0], said);
+            case "bounds" -> bounds(text, numbers, said);
             case "many" -> many(text, numbers[0]);
             default -> steps(command, text, numbers, said);
         }

@@ -10,7 +10,8 @@
  *                                 each wait of LEAST ms at least, but not if CODE is STOP; all requests whose BUDGET is 1
  *                                 share one of 10 tokens and the ratio 0.5 (these not in C)
  *   many TEXT COUNT               steps a program COUNT times, each time when it may; prints a line after each tenth
- *   bounds TEXT STEPS             zs_bounds: all seven of struct zs_bounds; in C between the number and the place
+ *   bounds TEXT STEPS [LEAST MOST]
+ *                                 zs_bounds: all nine of struct zs_bounds; in C between the number and the place
  *   answer, run                   as list and program, but only the last step's result is printed (C alone)
  *   version TEXT                  the version of the library
  *
@@ -277,9 +278,11 @@ static void say_bounds(const request *it, FILE *said)
 {
     OWN struct zs_bounds *found = (struct zs_bounds *)block(NULL, sizeof *found);
     OWN uint64_t *at = (uint64_t *)block(NULL, sizeof *at);
-    uint32_t number = zs_bounds(it->text, it->text_len, it->numbers[0], found, at);
-    fprintf(said, " %u %lu %lu %lu %lu %lu %lu %lu %lu", number, found->seen, found->least, found->has_most, found->most,
-            found->longest, found->has_total, found->total, *at);
+    const uint64_t any[] = {1, 0, 0}, given[] = {it->count > 2 ? it->numbers[1] : 0, 1, it->count > 2 ? it->numbers[2] : 0};
+    OWN zs_durations *durations = (zs_durations *)block(it->count > 2 ? given : any, sizeof *durations);
+    uint32_t number = zs_bounds(it->text, it->text_len, durations, it->numbers[0], found, at);
+    fprintf(said, " %u %lu %lu %lu %lu %lu %lu %lu %lu %lu %lu", number, found->seen, found->least, found->has_most, found->most,
+            found->longest, found->has_total, found->total, found->has_longest_run, found->longest_run, *at);
 }
 
 /* An effect that fails, and says when each attempt began. */

@@ -46,10 +46,14 @@ func steps(command, text string, numbers []uint64) (said []any, err error) {
 	return
 }
 
-func bounds(text string, steps uint64) ([]any, error) {
+func bounds(text string, steps uint64, durations ...uint64) ([]any, error) {
 	found, err := zsched.BoundsOf(text, steps)
+	if len(durations) > 0 {
+		found, err = zsched.BoundsOf(text, steps, zsched.Attempt{Least: durations[0], Most: durations[1]})
+	}
 	flags := map[bool]int{true: 1}
-	said := []any{found.Seen, found.Least, flags[found.HasMost], found.Most, found.Longest, flags[found.HasTotal], found.Total}
+	said := []any{found.Seen, found.Least, flags[found.HasMost], found.Most, found.Longest, flags[found.HasTotal], found.Total,
+		flags[found.HasLongestRun], found.LongestRun}
 	if err != nil {
 		said = nil
 	}
@@ -122,7 +126,7 @@ func main() {
 		case "retry":
 			said = retry(text, numbers[0], numbers[1], numbers[2:]...)
 		case "bounds":
-			said, err = bounds(text, numbers[0])
+			said, err = bounds(text, numbers[0], numbers[1:]...)
 		case "many":
 			many(text, numbers[0])
 		default:

@@ -36,9 +36,9 @@ async function retried(text, [code, times, jitter = 0n, least = 0n, stop, isLimi
   said.unshift(await ended.catch((error) => error.code));
 }
 
-/** A field of bounds as struct zs_bounds has it: `most` and `total` with a flag. */
+/** A field of bounds as struct zs_bounds has it: `most`, `total` and `longestRun` with a flag. */
 function fieldsOf(value, place) {
-  return [2, 4].includes(place) ? [value === null ? 0 : 1, value ?? 0] : [value];
+  return [2, 4, 5].includes(place) ? [value === null ? 0 : 1, value ?? 0] : [value];
 }
 
 function many(text, count) {
@@ -57,7 +57,7 @@ async function serve(command, text, numbers, said) {
     case 'version': return said.push(version());
     case 'moved': return new Stepper(String(text).split('\n')[1], new Stepper(String(text).split('\n')[0]).state);
     case 'retry': return retried(text, numbers, said);
-    case 'bounds': return said.push(...Object.values(bounds(text, numbers[0])).flatMap(fieldsOf));
+    case 'bounds': return said.push(...Object.values(bounds(text, numbers[0], numbers[1] ? numbers.slice(1) : undefined)).flatMap(fieldsOf));
     case 'many': return many(text, Number(numbers[0]));
     default: return steps(command, text, numbers, said);
   }

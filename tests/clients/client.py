@@ -34,10 +34,11 @@ def retry(text, code, times, jitter=0, least=0, stop=None, budget=0):
         return [error.args[0], *said]
 
 
-def bounds(text, count):
+def bounds(text, count, *attempt):
     """Returns the fields of struct zs_bounds."""
-    seen, least, most, longest, total = zsched.bounds(text, count)
-    return [seen, least, int(most is not None), most or 0, longest, int(total is not None), total or 0]
+    seen, least, most, longest, *limits = zsched.bounds(text, count, *[attempt] * bool(attempt))
+    most, total, run = ([int(it is not None), it or 0] for it in [most, *limits])
+    return [seen, least, *most, longest, *total, *run]
 
 
 def many(text, count):

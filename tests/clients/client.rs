@@ -49,12 +49,14 @@ fn retry(text: &str, numbers: &[u64]) -> Vec<String> {
     words
 }
 
-fn bounds(text: &str, steps: u64, said: &mut Vec<String>) -> Result<(), Fault> {
-    let found = zsched::bounds(text, steps)?;
+fn bounds(text: &str, numbers: &[u64], said: &mut Vec<String>) -> Result<(), Fault> {
+    let found = match *numbers {
+        [steps, least, most] => zsched::bounds_for(text, steps, least, Some(most))?,
+        _ => zsched::bounds(text, numbers[0])?,
+    };
     let limit = |limit: Option<u64>| [u64::from(limit.is_some()), limit.unwrap_or(0)];
-    let ([has_most, most], [has_total, total]) = (limit(found.most), limit(found.total));
-    let words = [found.seen, found.least, has_most, most, found.longest, has_total, total];
-    said.extend(words.map(|it| it.to_string()));
+    let words = [&[found.seen, found.least], &limit(found.most)[..], &[found.longest], &limit(found.total), &limit(found.longest_run)];
+    said.extend(words.concat().iter().map(u64::to_string));
     Ok(())
 }
 
@@ -86,7 +88,7 @@ fn main() {
             "version" => Ok(said.push(zsched::version().to_string())),
             "moved" => moved(&text),
             "retry" => Ok(said = retry(&text, &numbers)),
-            "bounds" => bounds(&text, numbers[0], &mut said),
+            "bounds" => bounds(&text, &numbers, &mut said),
             "many" => many(&text, numbers[0]),
             command => steps(command, &text, &numbers, &mut said),
         };

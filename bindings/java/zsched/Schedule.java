@@ -23,7 +23,7 @@ public final class Schedule {
 
         int zs_answer(byte[] text, long textLength, long[] seen, long pairs, long[] reply, byte[] out, long room);
 
-        int zs_bounds(byte[] text, long textLength, long steps, long[] bounds, long[] at);
+        int zs_bounds(byte[] text, long textLength, long[] durations, long steps, long[] bounds, long[] at);
 
         int zs_program_size(byte[] text, long textLength, long[] size, long[] stateSize, long[] at);
 
@@ -53,17 +53,22 @@ public final class Schedule {
     }
 
     /**
-     * What a schedule does for every input and however long attempts take, if each takes 1
-     * millisecond or more and no moment is above 999999999999999: the number of attempts that were
-     * examined, the first that can be the last one, the number of attempts at most, the longest wait
-     * after the examined ones, and all waits together, in milliseconds. {@code most} and
-     * {@code total} are empty if there is no bound.
+     * What a schedule does for every input, if each attempt takes as long as was given and no moment
+     * is above 999999999999999: the number of attempts that were examined, the first that can be the
+     * last one, the number of attempts at most, the longest wait after the examined ones, all waits
+     * together, and when each attempt ends at most, from the begin of the first; in milliseconds.
+     * {@code most}, {@code total} and {@code longestRun} are empty if there is no bound.
      */
-    public record Bounds(long seen, long least, OptionalLong most, long longest, OptionalLong total) {
+    public record Bounds(long seen, long least, OptionalLong most, long longest, OptionalLong total, OptionalLong longestRun) {
         /** Returns whether there are at most {@code most} attempts, and so much wait in all. */
         public boolean within(long most, Duration total) {
             return this.most.isPresent() && Long.compareUnsigned(this.most.getAsLong(), most) <= 0 && this.total.isPresent()
                 && Long.compareUnsigned(this.total.getAsLong(), total.toMillis()) <= 0;
+        }
+
+        /** Returns whether each call ends within {@code run}, attempts and waits together. */
+        public boolean endsWithin(Duration run) {
+            return longestRun.isPresent() && Long.compareUnsigned(longestRun.getAsLong(), run.toMillis()) <= 0;
         }
     }
 
@@ -159,14 +164,20 @@ public final class Schedule {
 
     /**
      * Returns the bounds of a text's schedule, of which at most the first {@code steps} attempts are
-     * examined. Throws {@link Fault}.
+     * examined. Each attempt takes 1 millisecond or more. Throws {@link Fault}.
      */
     public static Bounds bounds(String text, long steps) {
+        return bounds(text, steps, Duration.ofMillis(1), null);
+    }
+
+    /** Does the same if each attempt takes {@code least} to {@code most}; null is no such limit. */
+    public static Bounds bounds(String text, long steps, Duration least, Duration most) {
         byte[] bytes = text.getBytes(StandardCharsets.UTF_8);
-        long[] found = new long[7];
+        long[] durations = most == null ? new long[] {least.toMillis(), 0, 0} : new long[] {least.toMillis(), 1, most.toMillis()};
+        long[] found = new long[9];
         long[] at = new long[1];
-        refuse(CALLS.zs_bounds(bytes, bytes.length, steps, found, at), at[0]);
-        return new Bounds(found[0], found[1], limit(found[2], found[3]), found[4], limit(found[5], found[6]));
+        refuse(CALLS.zs_bounds(bytes, bytes.length, durations, steps, found, at), at[0]);
+        return new Bounds(found[0], found[1], limit(found[2], found[3]), found[4], limit(found[5], found[6]), limit(found[7], found[8]));
     }
 
     private static OptionalLong limit(long isThere, long number) {

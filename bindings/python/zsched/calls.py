@@ -14,9 +14,15 @@ class Reply(ctypes.Structure):
     _fields_ = [(name, ctypes.c_uint64) for name in ["next", "size", "visits", "at"]]
 
 
+class Durations(ctypes.Structure):
+    """How long attempts take: zs_durations."""
+    _fields_ = [(name, ctypes.c_uint64) for name in ["least", "has_most", "most"]]
+
+
 class Told(ctypes.Structure):
     """What zs_bounds returns: struct zs_bounds."""
-    _fields_ = [(name, ctypes.c_uint64) for name in ["seen", "least", "has_most", "most", "longest", "has_total", "total"]]
+    _fields_ = [(name, ctypes.c_uint64) for name in ["seen", "least", "has_most", "most", "longest", "has_total", "total",
+                                                     "has_longest_run", "longest_run"]]
 
 
 def _place() -> str:
@@ -39,7 +45,7 @@ def library() -> ctypes.CDLL:
     types = {
         "zs_check": [*text, place],
         "zs_answer": [*text, *words, reply, *text],
-        "zs_bounds": [*text, number, ctypes.POINTER(Told), place],
+        "zs_bounds": [*text, ctypes.POINTER(Durations), number, ctypes.POINTER(Told), place],
         "zs_program_size": [*text, place, place, place],
         "zs_compile": [*text, *words, place],
         "zs_program_begin": [*words, *words],

@@ -4,7 +4,7 @@ import ctypes
 import json
 import typing
 
-from .calls import Reply, Told, library
+from .calls import Durations, Reply, Told, library
 from .faults import DONE, KEEPS_LIST, Fault, refuse
 
 ROOM = 256
@@ -22,23 +22,29 @@ class Answer(typing.NamedTuple):
 
 
 class Bounds(typing.NamedTuple):
-    """What a schedule does for every input and however long attempts take.
+    """What a schedule does for every input.
 
     No attempt before the one of number `least` is the last, and none after `most` is made.
     `longest` is the longest wait after the first `seen` attempts, and `total` is all waits
-    together, both in milliseconds. `most` and `total` are None if there is no bound.
+    together. Each attempt ends at most `longest_run` after the begin of the first. These three are
+    in milliseconds; `most`, `total` and `longest_run` are None if there is no bound.
 
-    The bounds hold if each attempt takes 1 millisecond or more, and no moment is above
+    The bounds hold if each attempt takes as long as `bounds` was told, and no moment is above
     999999999999999."""
     seen: int
     least: int
     most: int | None
     longest: int
     total: int | None
+    longest_run: int | None
 
     def within(self, most: int, total: int) -> bool:
         """Returns whether there are at most `most` attempts, and `total` ms of waits together."""
         return self.most is not None and self.most <= most and self.total is not None and self.total <= total
+
+    def ends_within(self, run: int) -> bool:
+        """Returns whether each call ends within `run` ms, attempts and waits together."""
+        return self.longest_run is not None and self.longest_run <= run
 
 
 def check(text: str) -> None:
@@ -207,14 +213,16 @@ def begun(text: str) -> Schedule | Stepper:
     return Schedule(text)
 
 
-def bounds(schedule: str | Schedule | Stepper, steps: int) -> Bounds:
+def bounds(schedule: str | Schedule | Stepper, steps: int, attempt: tuple[int, int | None] = (1, None)) -> Bounds:
     """Returns the Bounds of a schedule, of which at most the first `steps` attempts are examined.
 
-    For a Schedule or Stepper these are the bounds of its text, before its first step. Raises
-    ScheduleFault, OverflowError if `steps` isn't in 0 to 2^64 - 1, and TypeError if it is no
-    integer."""
-    text = schedule if isinstance(schedule, str) else schedule.text
+    `attempt` is the least and the most milliseconds that an attempt takes, or None for no most. For
+    a Schedule or Stepper these are the bounds of its text, before its first step. Raises
+    ScheduleFault, Fault if no attempt takes so long, OverflowError if a number isn't in 0 to
+    2^64 - 1, and TypeError if it is no integer."""
+    text, (least, most) = schedule if isinstance(schedule, str) else schedule.text, attempt
+    numbers = array.array("Q", [steps, least, most is not None, 0 if most is None else most])
     data, reply, at = text.encode(), Told(), ctypes.c_uint64()
-    refuse(text, library().zs_bounds(data, len(data), array.array("Q", [steps])[0], reply, at), at.value)
+    refuse(text, library().zs_bounds(data, len(data), Durations(*numbers[1:]), numbers[0], reply, at), at.value)
     return Bounds(reply.seen, reply.least, reply.most if reply.has_most else None, reply.longest,
-                  reply.total if reply.has_total else None)
+                  reply.total if reply.has_total else None, reply.longest_run if reply.has_longest_run else None)

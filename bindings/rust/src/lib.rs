@@ -60,6 +60,15 @@ struct Told {
     longest: u64,
     has_total: u64,
     total: u64,
+    has_longest_run: u64,
+    longest_run: u64,
+}
+
+#[repr(C)]
+struct Durations {
+    least: u64,
+    has_most: u64,
+    most: u64,
 }
 
 extern "C" {
@@ -73,7 +82,14 @@ extern "C" {
         out: *mut u8,
         out_len: usize,
     ) -> u32;
-    fn zs_bounds(text: *const u8, text_len: usize, steps: u64, bounds: *mut Told, at: *mut u64) -> u32;
+    fn zs_bounds(
+        text: *const u8,
+        text_len: usize,
+        durations: *const Durations,
+        steps: u64,
+        bounds: *mut Told,
+        at: *mut u64,
+    ) -> u32;
     fn zs_program_size(text: *const u8, text_len: usize, size: *mut u64, state_size: *mut u64, at: *mut u64) -> u32;
     fn zs_compile(text: *const u8, text_len: usize, program: *mut u64, program_len: usize, at: *mut u64) -> u32;
     fn zs_program_begin(program: *const u64, program_len: usize, state: *mut u64, state_len: usize) -> u32;
@@ -207,8 +223,8 @@ pub fn check(text: &str) -> Result<(), Fault> {
     if number == NEXT { Ok(()) } else { Err(Fault::of(number, at)) }
 }
 
-/// What a schedule does for every input and however long attempts take, if each takes 1 millisecond
-/// or more and no moment is above 999999999999999. Times are in milliseconds.
+/// What a schedule does for every input, if each attempt takes as long as was given and no moment is
+/// above 999999999999999. Times are in milliseconds.
 #[derive(Clone, Copy, Debug, PartialEq, Eq)]
 pub struct Bounds {
     /// The number of attempts that were examined.
@@ -221,6 +237,8 @@ pub struct Bounds {
     pub longest: u64,
     /// All waits together at most; `None` if there is no bound.
     pub total: Option<u64>,
+    /// Each attempt ends at most this long after the begin of the first; `None` if there is no bound.
+    pub longest_run: Option<u64>,
 }
 
 impl Bounds {
@@ -228,9 +246,15 @@ impl Bounds {
     pub fn within(&self, most: u64, total: u64) -> bool {
         self.most.is_some_and(|it| it <= most) && self.total.is_some_and(|it| it <= total)
     }
+
+    /// Returns whether each call ends within `run` milliseconds, attempts and waits together.
+    pub fn ends_within(&self, run: u64) -> bool {
+        self.longest_run.is_some_and(|it| it <= run)
+    }
 }
 
 /// Returns the bounds of a text's schedule, of which at most the first `steps` attempts are examined.
+/// Each attempt takes 1 millisecond or more.
 ///
 /// ```
 /// let bounds = zsched::bounds("(exponential(100) && recurs(5))", 1000)?;
@@ -238,16 +262,28 @@ impl Bounds {
 /// # Ok::<(), zsched::Fault>(())
 /// ```
 pub fn bounds(text: &str, steps: u64) -> Result<Bounds, Fault> {
+    bounds_for(text, steps, 1, None)
+}
+
+/// Does the same if each attempt takes `least` to `most` milliseconds; `None` is no such limit.
+///
+/// ```
+/// assert!(zsched::bounds_for("(exponential(100) && recurs(4))", 1000, 1, Some(5000))?.ends_within(30_000));
+/// # Ok::<(), zsched::Fault>(())
+/// ```
+pub fn bounds_for(text: &str, steps: u64, least: u64, most: Option<u64>) -> Result<Bounds, Fault> {
     let (mut found, mut at) = (Told::default(), 0);
+    let durations = Durations { least, has_most: most.is_some().into(), most: most.unwrap_or(0) };
     // SAFETY: the pointer and the length are those of a text that is borrowed for the call, and the
     // others are variables.
-    let number = unsafe { zs_bounds(text.as_ptr(), text.len(), steps, &mut found, &mut at) };
+    let number = unsafe { zs_bounds(text.as_ptr(), text.len(), &durations, steps, &mut found, &mut at) };
     if number != NEXT {
         return Err(Fault::of(number, at));
     }
     let limit = |is_there: u64, value| (is_there == 1).then_some(value);
     let (most, total) = (limit(found.has_most, found.most), limit(found.has_total, found.total));
-    Ok(Bounds { seen: found.seen, least: found.least, most, longest: found.longest, total })
+    let longest_run = limit(found.has_longest_run, found.longest_run);
+    Ok(Bounds { seen: found.seen, least: found.least, most, longest: found.longest, total, longest_run })
 }
 
 /// Returns the result of a text's schedule at the last of some steps, which are in order, oldest

@@ -2,19 +2,25 @@
 -- two schedules has the sizes of the first after its tag: the number of words of its code, and of
 -- its state. `one_schedule` of `src/program/laws.rt` states that words are the program of at most
 -- one schedule.
-use Rattle.std.specs.Prelude.{◌≡◌, ℕ, ◌≤◌, true, List, [], ◌∷◌, ◌++◌, length}
+use Rattle.std.specs.Prelude.{◌≡◌, ◌⊎◌, ℕ, ◌≤◌, true, false, List, [], ◌∷◌, ◌++◌, length}
 use Rattle.zs_term.specs.Output.{number_in}
-use Rattle.zs_term.specs.Schedule.{Schedule, leaf, two, over, Leaf, Pairing, both, either, and_then, Modifier, while_input, while_output, collect_all, mapped, reset_when, depth}
+use Rattle.zs_term.specs.Schedule.{Schedule, leaf, two, over, Leaf, Pairing, both, either, and_then}
+use Rattle.zs_term.specs.Schedule.{Modifier, while_input, while_output, collect_all, mapped}
+use Rattle.zs_term.specs.Schedule.{reset_when, depth}
 use Rattle.zs_term.specs.declared.term.Cmp.{Cmp}
 use Rattle.zs_term.specs.declared.term.Cmp.TheVariants.{Lt, Le, Eq, Ne, Gt, Ge}
 use Rattle.zs_term.specs.declared.term.Pick.{Pick}
-use Rattle.zs_term.specs.declared.term.Pick.TheVariants.{Whole, First as PickFirst, Second as PickSecond, Size as PickSize}
+use Rattle.zs_term.specs.declared.term.Pick.TheVariants.{Whole, First as PickFirst}
+use Rattle.zs_term.specs.declared.term.Pick.TheVariants.{Second as PickSecond, Size as PickSize}
 use Rattle.zs_term.specs.declared.term.Func.{Func}
-use Rattle.zs_term.specs.declared.term.Func.TheVariants.{First, Second, Size, Merge, Const, Add, Mul}
+use Rattle.zs_term.specs.declared.term.Func.TheVariants.{First, Second, Size, Merge, Const, Add}
+use Rattle.zs_term.specs.declared.term.Func.TheVariants.{Mul}
 use Rattle.zs_step.specs.History.{History}
 use Rattle.zs_step.specs.Memory.{keeps_no_list}
 use Rattle.zs_step.specs.Answer.{answer_of, leaf_answer, from_done, since_reset}
 use Rattle.zs_c.specs.Words.{leaf_code, leaf_words, sequel_words}
+use Rattle.zs_c.specs.declared.refusal.Refusal.{Refusal}
+use Rattle.zs_c.specs.declared.refusal.Refusal.TheVariants.{KeepsList}
 
 -- the words of a leaf's state: its last output, and what the next step needs to know
 abbrev pub leaf_held : Leaf → History → List ℕ
@@ -89,11 +95,20 @@ modifier_code collect_all = 18 ∷ []
 -- the words of a schedule
 abbrev pub code_of : Schedule → List ℕ
 code_of (leaf l) = leaf_code l
-code_of (two p a b) = pairing_tag p ∷ (length (code_of a) ∷ (held_size a ∷ (code_of a ++ code_of b)))
+code_of (two p a b) =
+    pairing_tag p ∷ (length (code_of a) ∷ (held_size a ∷ (code_of a ++ code_of b)))
 code_of (over s m) = modifier_code m ++ code_of s
+
+-- the words of an operator between two schedules, with its tag
+abbrev pub pair_code : ℕ → Schedule → Schedule → List ℕ
+pair_code tag a b = tag ∷ (length (code_of a) ∷ (held_size a ∷ (code_of a ++ code_of b)))
 
 -- words are the code of a schedule that stores no list and is at most `levels` deep
 pub record IsCode (t : Schedule) (code : List ℕ) (levels : ℕ) : Type 0 where
   pub is : code ≡ code_of t
   pub flat : keeps_no_list t ≡ true
   pub deep : depth t ≤ levels
+
+-- one of two schedules stores a list, if that is why they have no code
+abbrev pub ListsOne : Schedule → Schedule → Refusal → Type 0
+ListsOne a b why = why ≡ KeepsList → (keeps_no_list a ≡ false) ⊎ (keeps_no_list b ≡ false)

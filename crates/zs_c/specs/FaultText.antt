@@ -14,6 +14,7 @@ fault_words n =
     else if nat_eq n 7 then codes "the words are fewer than the state has"
     else if nat_eq n 8 then codes "no program of this version, or one that was changed"
     else if nat_eq n 9 then codes "the state of another program"
+    else if nat_eq n 10 then codes "no attempt takes these durations"
     else if nat_eq n 11 then codes "no term"
     else if nat_eq n 12 then codes "too big"
     else if nat_eq n 13 then codes "number too large"
@@ -28,7 +29,8 @@ has_byte n = nat_eq n 4 || (nat_eq n 11 || nat_eq n 13)
 
 -- the text of a number and the place that goes with it
 abbrev pub fault_text : ℕ → ℕ → List ℕ
-fault_text n at = if has_byte n then fault_words n ++ (codes " at byte " ++ decimal at) else fault_words n
+fault_text n at =
+    if has_byte n then fault_words n ++ (codes " at byte " ++ decimal at) else fault_words n
 
 -- the version: a million times the first of its numbers, plus a thousand times the second, plus the
 -- third

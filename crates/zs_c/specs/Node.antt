@@ -1,24 +1,32 @@
 -- How words are read as a node: by their tag, whatever follows it. `proofs/Nodes.antt` proves that
 -- the code of a schedule is read as its node.
 use Rattle.std.specs.Prelude.{◌≡◌, ℕ, ◌==◌, if◌then◌else◌, List, length, take, drop}
-use Rattle.zs_term.specs.Schedule.{Schedule, leaf, two, over, both, either, and_then, while_input, while_output, mapped, reset_when}
+use Rattle.zs_term.specs.Schedule.{Schedule, leaf, two, over, both, either, and_then, while_input}
+use Rattle.zs_term.specs.Schedule.{while_output, mapped, reset_when}
 use Rattle.zs_term.specs.declared.term.Cmp.{Cmp}
 use Rattle.zs_term.specs.declared.term.Cmp.TheVariants.{Lt, Le, Eq, Ne, Gt, Ge}
 use Rattle.zs_term.specs.declared.term.Test.{Test}
 use Rattle.zs_term.specs.declared.term.Pick.{Pick}
-use Rattle.zs_term.specs.declared.term.Pick.TheVariants.{Whole, First as PickFirst, Second as PickSecond, Size as PickSize}
+use Rattle.zs_term.specs.declared.term.Pick.TheVariants.{Whole, First as PickFirst}
+use Rattle.zs_term.specs.declared.term.Pick.TheVariants.{Second as PickSecond, Size as PickSize}
 use Rattle.zs_term.specs.declared.term.Func.{Func}
-use Rattle.zs_term.specs.declared.term.Func.TheVariants.{First, Second, Size, Merge, Const, Add, Mul}
+use Rattle.zs_term.specs.declared.term.Func.TheVariants.{First, Second, Size, Merge, Const, Add}
+use Rattle.zs_term.specs.declared.term.Func.TheVariants.{Mul}
 use Rattle.zs_c.specs.declared.program.node.Sizes.{Sizes}
 use Rattle.zs_c.specs.declared.program.node.Node.{Node}
-use Rattle.zs_c.specs.declared.program.node.Node.TheVariants.{Leaf, Both, Either, AndThen, WhileInput, WhileOutput, Map, ResetWhen}
+use Rattle.zs_c.specs.declared.program.node.Node.TheVariants.{Leaf, Both, Either, AndThen}
+use Rattle.zs_c.specs.declared.program.node.Node.TheVariants.{WhileInput, WhileOutput, Map}
+use Rattle.zs_c.specs.declared.program.node.Node.TheVariants.{ResetWhen}
 use Rattle.zs_step.specs.LeafState.{state_leaf}
 use Rattle.zs_c.specs.Leaves.{word_at, rule_at, new_leaf}
 use Rattle.zs_c.specs.Code.{code_of, held_size, IsCode}
 
 -- the comparison of a word
 abbrev pub cmp_of : ℕ → Cmp
-cmp_of w = if w == 0 then Lt else (if w == 1 then Le else (if w == 2 then Eq else (if w == 3 then Ne else (if w == 4 then Gt else Ge))))
+cmp_of w =
+    if w == 0 then Lt
+    else (if w == 1 then Le
+    else (if w == 2 then Eq else (if w == 3 then Ne else (if w == 4 then Gt else Ge))))
 
 -- a comparison with a number
 abbrev pub test_of : ℕ → ℕ → Test
@@ -26,12 +34,15 @@ test_of w than = record { cmp = cmp_of w; than = than }
 
 -- what a test reads, by its word
 abbrev pub pick_of : ℕ → Pick
-pick_of w = if w == 0 then Whole else (if w == 1 then PickFirst else (if w == 2 then PickSecond else PickSize))
+pick_of w =
+    if w == 0 then Whole
+    else (if w == 1 then PickFirst else (if w == 2 then PickSecond else PickSize))
 
 -- the function of a word and a number
 abbrev pub func_of : ℕ → ℕ → Func
 func_of w n =
-    if w == 0 then First else (if w == 1 then Second else (if w == 2 then Size else (if w == 3 then Merge else
+    if w == 0 then First
+    else (if w == 1 then Second else (if w == 2 then Size else (if w == 3 then Merge else
     (if w == 4 then Const n else (if w == 5 then Add n else Mul n)))))
 
 -- the sizes after an operator's tag
@@ -43,10 +54,14 @@ unfoldable pub node_at : List ℕ → Node
 node_at code =
     let w = word_at code 0 in
     if w == 11 then Both (sizes_at code) else (if w == 12 then Either (sizes_at code) else
-    (if w == 13 then AndThen (sizes_at code) else (if w == 14 then WhileInput (test_of (word_at code 1) (word_at code 2)) else
-    (if w == 15 then WhileOutput (pick_of (word_at code 1)) (test_of (word_at code 2) (word_at code 3)) else
+    (if w == 13 then AndThen (sizes_at code)
+    else (if w == 14 then WhileInput (test_of (word_at code 1) (word_at code 2)) else
+    (if w == 15
+    then WhileOutput (pick_of (word_at code 1)) (test_of (word_at code 2) (word_at code 3)) else
     (if w == 16 then Map (func_of (word_at code 1) (word_at code 2)) else
-    (if w == 17 then ResetWhen (pick_of (word_at code 1)) (test_of (word_at code 2) (word_at code 3)) else Leaf (new_leaf (rule_at code))))))))
+    (if w == 17
+    then ResetWhen (pick_of (word_at code 1)) (test_of (word_at code 2) (word_at code 3))
+    else Leaf (new_leaf (rule_at code))))))))
 
 -- the sizes of an operator's first part
 abbrev pub sizes_of : Schedule → Sizes

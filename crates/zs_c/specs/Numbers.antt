@@ -2,11 +2,14 @@
 -- go with them.
 use Rattle.std.specs.Prelude.{ℕ}
 use Rattle.zs_term.specs.declared.fault.TermFault.{TermFault}
-use Rattle.zs_term.specs.declared.fault.TermFault.TheVariants.{NoTerm, TooBig, BadNumber, BadFactor, NoKind, BadWindow, Memory as TermMemory}
+use Rattle.zs_term.specs.declared.fault.TermFault.TheVariants.{NoTerm, TooBig, BadNumber, BadFactor}
+use Rattle.zs_term.specs.declared.fault.TermFault.TheVariants.{NoKind, BadWindow}
+use Rattle.zs_term.specs.declared.fault.TermFault.TheVariants.{Memory as TermMemory}
 use Rattle.zs_step.specs.declared.decision.Decision.{Decision}
 use Rattle.zs_step.specs.declared.decision.Decision.TheVariants.{Stop, Next}
 use Rattle.zs_c.specs.declared.refusal.Refusal.{Refusal}
-use Rattle.zs_c.specs.declared.refusal.Refusal.TheVariants.{NoPair, Falls, NotUtf8, Memory, KeepsList, NoRoom, Text}
+use Rattle.zs_c.specs.declared.refusal.Refusal.TheVariants.{NoPair, Falls, NotUtf8, Memory}
+use Rattle.zs_c.specs.declared.refusal.Refusal.TheVariants.{KeepsList, NoRoom, NoDuration, Text}
 
 -- the number of a decision
 abbrev pub decision_number : Decision → ℕ
@@ -46,6 +49,7 @@ refusal_number (NotUtf8 at) = 4
 refusal_number Memory = 5
 refusal_number KeepsList = 6
 refusal_number NoRoom = 7
+refusal_number NoDuration = 10
 refusal_number (Text fault) = fault_number fault
 
 -- the byte or the pair at which an error shows, or 0
@@ -56,4 +60,5 @@ refusal_place (NotUtf8 at) = at
 refusal_place Memory = 0
 refusal_place KeepsList = 0
 refusal_place NoRoom = 0
+refusal_place NoDuration = 0
 refusal_place (Text fault) = fault_place fault

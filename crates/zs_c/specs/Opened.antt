@@ -1,10 +1,17 @@
 -- The schedule of an opened program: for private contracts alone.
-use Rattle.std.specs.Prelude.{◌≡◌, true}
-use Rattle.zs_term.specs.Schedule.{Schedule, is_within_limits}
+use Rattle.std.specs.Prelude.{◌≡◌, ℕ, ◌≤◌, true, List}
+use Rattle.zs_term.specs.Output.{Output}
+use Rattle.zs_term.specs.Schedule.{Schedule, is_within_limits, weight}
+use Rattle.zs_term.specs.declared.limits.TheConstants.{MAX_DEPTH, MAX_WEIGHT}
+use Rattle.zs_step.specs.History.{History}
+use Rattle.zs_step.specs.Answer.{answer_of}
 use Rattle.zs_step.specs.Memory.{keeps_no_list}
 use Rattle.zs_c.specs.declared.program.opening.Opened.{Opened}
-use Rattle.zs_c.specs.Code.{code_of, held_size}
+use Rattle.zs_c.specs.declared.program.leaf.Step.{Step}
+use Rattle.zs_c.specs.declared.reply.Reply.{Reply}
+use Rattle.zs_c.specs.Code.{IsCode, code_of, held_of, held_size}
 use Rattle.zs_c.specs.Program.{program_check}
+use Rattle.zs_c.specs.Programs.{IsProgramStepped}
 
 -- an opened program is that of a schedule
 pub record Opens (o : Opened) (t : Schedule) : Type 0 where
@@ -13,3 +20,14 @@ pub record Opens (o : Opened) (t : Schedule) : Type 0 where
   pub code : o.code.now ≡ code_of t
   pub flat : keeps_no_list t ≡ true
   pub within : is_within_limits t ≡ true
+
+-- a step is that of every schedule that an opened program is of
+abbrev pub StepsOpened : Opened → List ℕ → List ℕ → Step → Reply → List ℕ → List ℕ → ℕ → Type 0
+StepsOpened o old new step r room out number =
+    (t : Schedule) → Opens o t → IsProgramStepped t old new step.moment step.input number r room out
+
+-- a fact holds of every output that words may represent
+abbrev pub OfEachOutput : List ℕ → List ℕ → (Output → Type 0) → Type 0
+OfEachOutput code words Holds =
+    (t : Schedule) (h : History) → IsCode t code MAX_DEPTH → weight t ≤ MAX_WEIGHT
+    → words ≡ held_of t h → Holds (answer_of t h).output

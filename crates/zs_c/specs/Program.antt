@@ -1,10 +1,12 @@
 -- A schedule as a program: a version, a check word of the words after it, the sizes of its code and
 -- of its state, and its code.
-use Rattle.std.specs.Prelude.{◌≡◌, ℕ, ◌+◌, ◌*◌, ◌%◌, ◌^◌, ◌<◌, ◌≤◌, true, List, ◌∷◌, ◌++◌, length, take, drop, fold, slice_index_or}
+use Rattle.std.specs.Prelude.{◌≡◌, ℕ, ◌+◌, ◌*◌, ◌%◌, ◌^◌, ◌<◌, ◌≤◌, true, List, ◌∷◌, ◌++◌, length}
+use Rattle.std.specs.Prelude.{take, drop, fold, slice_index_or}
 use Rattle.zs_term.specs.Schedule.{Schedule, is_within_limits}
 use Rattle.zs_step.specs.History.{History, last_moment}
 use Rattle.zs_step.specs.Memory.{keeps_no_list}
-use Rattle.zs_c.specs.declared.program.opening.TheConstants.{PROGRAM_VERSION, CHECK_START, CHECK_FACTOR}
+use Rattle.zs_c.specs.declared.program.opening.TheConstants.{PROGRAM_VERSION, CHECK_START}
+use Rattle.zs_c.specs.declared.program.opening.TheConstants.{CHECK_FACTOR}
 use Rattle.zs_c.specs.Code.{code_of, held_of, held_size}
 
 -- a check word after one more word
@@ -22,7 +24,8 @@ pub record IsChecked (words : List ℕ) : Type 0 where
   pub version : slice_index_or words 0 0 ≡ PROGRAM_VERSION
   pub some : 0 < slice_index_or words 2 0
   pub within : slice_index_or words 2 0 + 4 ≤ length words
-  pub check : slice_index_or words 1 0 ≡ check_word (take (slice_index_or words 2 0 + 2) (drop 2 words))
+  pub check : slice_index_or words 1 0
+      ≡ check_word (take (slice_index_or words 2 0 + 2) (drop 2 words))
 
 -- the words after the check word of a program
 abbrev pub body_of : Schedule → List ℕ

@@ -1,15 +1,21 @@
 -- What the calls over a program return to C. A program is words that begin with those of a
 -- schedule, and is that of one schedule alone. For other words, nothing is stated but why a call
 -- fails, and what a step changes.
-use Rattle.std.specs.Prelude.{◌≡◌, ◌≢◌, ℕ, ◌+◌, ◌<◌, List, [], ◌∷◌, ◌++◌, length, drop, slice_index_or}
+use Rattle.std.specs.Prelude.{◌≡◌, ◌≢◌, ℕ, ◌+◌, ◌<◌, List, [], ◌∷◌, ◌++◌, length, drop}
+use Rattle.std.specs.Prelude.{slice_index_or}
 use Rattle.zs_term.specs.Schedule.{Schedule}
 use Rattle.zs_step.specs.History.{History}
 use Rattle.zs_c.specs.declared.reply.Reply.{Reply}
 use Rattle.zs_c.specs.declared.program.denial.Denial.{Denial}
-use Rattle.zs_c.specs.declared.program.denial.Denial.TheVariants.{NoProgram, NoRoom, OtherState, Falls}
-use Rattle.zs_c.specs.Program.{program_of, program_check, program_state, IsProgram, KeepsProgramState}
+use Rattle.zs_c.specs.declared.program.denial.Denial.TheVariants.{NoProgram, NoRoom, OtherState}
+use Rattle.zs_c.specs.declared.program.denial.Denial.TheVariants.{Falls}
+use Rattle.zs_c.specs.Program.{program_of, program_check, program_state, IsProgram}
+use Rattle.zs_c.specs.Program.{KeepsProgramState}
 use Rattle.zs_c.specs.declared.refusal.Refusal.{Refusal}
-use Rattle.zs_c.specs.declared.refusal.Refusal.TheVariants.{NoPair, Falls as RefusalFalls, NotUtf8, Memory, KeepsList, NoRoom as RefusalNoRoom, Text}
+use Rattle.zs_c.specs.declared.refusal.Refusal.TheVariants.{NoPair, Falls as RefusalFalls, NotUtf8}
+use Rattle.zs_c.specs.declared.refusal.Refusal.TheVariants.{Memory, KeepsList}
+use Rattle.zs_c.specs.declared.refusal.Refusal.TheVariants.{NoRoom as RefusalNoRoom, NoDuration}
+use Rattle.zs_c.specs.declared.refusal.Refusal.TheVariants.{Text}
 use Rattle.zs_c.specs.Refusals.{SpellsFlat, IsSizeRefusal}
 use Rattle.zs_c.specs.Told.{TellsAnswer}
 
@@ -43,6 +49,7 @@ IsCompileRefusal text room (Text fault) = IsSizeRefusal text (Text fault)
 IsCompileRefusal text room Memory = IsSizeRefusal text Memory
 IsCompileRefusal text room NoPair = ⊥
 IsCompileRefusal text room (RefusalFalls at) = ⊥
+IsCompileRefusal text room NoDuration = ⊥
 
 -- the text spells a schedule, and this is its program
 pub record IsNewProgram (text words : List ℕ) : Type 0 where
@@ -61,7 +68,8 @@ pub record IsCompiled (text old new : List ℕ) : Type 0 where
 -- Why a program isn't begun: it is that of no schedule; or its state has more words.
 abbrev pub IsUnfit : List ℕ → List ℕ → Denial → Type 0
 IsUnfit program state NoProgram = (t : Schedule) → IsProgram program t → ⊥
-IsUnfit program state NoRoom = (t : Schedule) → IsProgram program t → length state < length (program_state t [])
+IsUnfit program state NoRoom =
+    (t : Schedule) → IsProgram program t → length state < length (program_state t [])
 IsUnfit program state OtherState = ⊥
 IsUnfit program state Falls = ⊥
 
@@ -70,7 +78,8 @@ IsUnfit program state Falls = ⊥
 abbrev pub IsDenied : List ℕ → List ℕ → ℕ → Denial → Type 0
 IsDenied program state now NoProgram = IsUnfit program state NoProgram
 IsDenied program state now NoRoom = IsUnfit program state NoRoom
-IsDenied program state now OtherState = (t : Schedule) → IsProgram program t → slice_index_or state 0 0 ≢ program_check t
+IsDenied program state now OtherState =
+    (t : Schedule) → IsProgram program t → slice_index_or state 0 0 ≢ program_check t
 IsDenied program state now Falls = now < slice_index_or state 1 0
 
 -- a number is that of a reason that holds why a program isn't begun, or not stepped
@@ -93,7 +102,9 @@ pub record IsStepSafe (program old new : List ℕ) (now : ℕ) : Type 0 where
 -- The result of one more step is returned, for each history whose state the words were. The new
 -- words are the state after that step. Words after the state are unchanged, whatever the words
 -- were.
-pub record IsProgramStepped (t : Schedule) (old new : List ℕ) (now input number : ℕ) (r : Reply) (room out : List ℕ) : Type 0 where
-  pub answer : (h : History) → KeepsProgramState t h old → TellsAnswer t ((now, input) ∷ h) number r room out
+pub record IsProgramStepped (t : Schedule) (old new : List ℕ) (now input number : ℕ) (r : Reply)
+    (room out : List ℕ) : Type 0 where
+  pub answer : (h : History) → KeepsProgramState t h old
+      → TellsAnswer t ((now, input) ∷ h) number r room out
   pub state : (h : History) → KeepsProgramState t h old → KeepsProgramState t ((now, input) ∷ h) new
   pub behind : drop (length (program_state t [])) new ≡ drop (length (program_state t [])) old

@@ -7,7 +7,8 @@ use Rattle.zs_term.specs.Schedule.{Schedule}
 use Rattle.zs_term.specs.Causes.{SpellsSchedule}
 use Rattle.zs_term.specs.Verdict.{verdict_of}
 use Rattle.zs_c.specs.declared.refusal.Refusal.{Refusal}
-use Rattle.zs_c.specs.declared.refusal.Refusal.TheVariants.{NoPair, Falls, NotUtf8, Memory, KeepsList, NoRoom, Text}
+use Rattle.zs_c.specs.declared.refusal.Refusal.TheVariants.{NoPair, Falls, NotUtf8, Memory}
+use Rattle.zs_c.specs.declared.refusal.Refusal.TheVariants.{KeepsList, NoRoom, NoDuration, Text}
 use Rattle.zs_c.specs.Pairs.{FallsFirstAt}
 use Rattle.zs_step.specs.Memory.{keeps_no_list}
 
@@ -25,6 +26,7 @@ IsTextRefusal text NoPair = ⊥
 IsTextRefusal text (Falls at) = ⊥
 IsTextRefusal text KeepsList = ⊥
 IsTextRefusal text NoRoom = ⊥
+IsTextRefusal text NoDuration = ⊥
 
 -- Why there is no result: the text is rejected; or it spells a schedule, and there is no pair or
 -- the moments fall.
@@ -36,6 +38,7 @@ IsRefusal text pairs (Text fault) = IsTextRefusal text (Text fault)
 IsRefusal text pairs Memory = IsTextRefusal text Memory
 IsRefusal text pairs KeepsList = ⊥
 IsRefusal text pairs NoRoom = ⊥
+IsRefusal text pairs NoDuration = ⊥
 
 -- the text spells a schedule that stores no list
 pub record SpellsFlat (text : List ℕ) (t : Schedule) : Type 0 where
@@ -57,3 +60,4 @@ IsSizeRefusal text Memory = IsTextRefusal text Memory
 IsSizeRefusal text NoPair = ⊥
 IsSizeRefusal text (Falls at) = ⊥
 IsSizeRefusal text NoRoom = ⊥
+IsSizeRefusal text NoDuration = ⊥

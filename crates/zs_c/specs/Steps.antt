@@ -1,27 +1,65 @@
 -- What a step of a code does to the words of its state: for private contracts alone.
-use Rattle.std.specs.Prelude.{◌≡◌, ℕ, suc, ◌+◌, List, ◌∷◌, ◌++◌}
-use Rattle.zs_term.specs.Schedule.{Schedule, two, and_then}
+use Rattle.std.specs.Prelude.{◌≡◌, ℕ, suc, ◌+◌, ◌≤◌, List, [], ◌∷◌, ◌++◌, length}
+use Rattle.zs_term.specs.Schedule.{Schedule, weight, two, and_then}
+use Rattle.zs_term.specs.declared.limits.TheConstants.{MAX_WEIGHT}
 use Rattle.zs_step.specs.declared.decision.Decision.{Decision}
 use Rattle.zs_step.specs.History.{History}
 use Rattle.zs_step.specs.Answer.{answer_of}
 use Rattle.zs_step.specs.Visits.{visits}
-use Rattle.zs_c.specs.Code.{held_of}
+use Rattle.zs_c.specs.declared.program.leaf.Step.{Step}
+use Rattle.zs_c.specs.declared.program.node.Sizes.{Sizes}
+use Rattle.zs_c.specs.Code.{IsCode, held_of, held_size}
+use Rattle.zs_c.specs.Node.{IsParts}
 
 -- a step after a history: the new words, the decision, and the visits before and after it
-pub record StepsCode (t : Schedule) (h : History) (words : List ℕ) (now input : ℕ) (d : Decision) (before after : ℕ) : Type 0 where
+pub record StepsCode (t : Schedule) (h : History) (words : List ℕ) (now input : ℕ) (d : Decision)
+    (before after : ℕ) : Type 0 where
   pub held : words ≡ held_of t ((now, input) ∷ h)
   pub decides : d ≡ (answer_of t ((now, input) ∷ h)).decision
   pub visited : after ≡ before + visits t ((now, input) ∷ h)
 
 -- the same for two parts that are both stepped
-pub record StepsBoth (a b : Schedule) (h : History) (words : List ℕ) (now input : ℕ) (d e : Decision) (before after : ℕ) : Type 0 where
+pub record StepsBoth (a b : Schedule) (h : History) (words : List ℕ) (now input : ℕ)
+    (d e : Decision) (before after : ℕ) : Type 0 where
   pub held : words ≡ held_of a ((now, input) ∷ h) ++ held_of b ((now, input) ∷ h)
   pub first : d ≡ (answer_of a ((now, input) ∷ h)).decision
   pub second : e ≡ (answer_of b ((now, input) ∷ h)).decision
   pub visited : after ≡ before + visits a ((now, input) ∷ h) + visits b ((now, input) ∷ h)
 
 -- the same for the two parts of `andThenEither`; the operator's visit was counted before
-pub record StepsThen (a b : Schedule) (h : History) (words : List ℕ) (now input : ℕ) (d : Decision) (before after : ℕ) : Type 0 where
+pub record StepsThen (a b : Schedule) (h : History) (words : List ℕ) (now input : ℕ) (d : Decision)
+    (before after : ℕ) : Type 0 where
   pub held : words ≡ held_of (two and_then a b) ((now, input) ∷ h)
   pub decides : d ≡ (answer_of (two and_then a b) ((now, input) ∷ h)).decision
   pub visited : suc after ≡ before + visits (two and_then a b) ((now, input) ∷ h)
+
+-- ---- for every schedule and history that a code and its words may have
+
+-- the words become those before any step
+abbrev pub ClearsParts : Sizes → List ℕ → ℕ → List ℕ → List ℕ → Type 0
+ClearsParts sizes code levels old new =
+    (a b : Schedule) → IsParts a b sizes code levels → length old ≡ held_size a + held_size b
+    → new ≡ held_of a [] ++ held_of b []
+
+-- the words become those after a step
+abbrev pub StepsWords : List ℕ → ℕ → List ℕ → List ℕ → Step → ℕ → ℕ → Decision → Type 0
+StepsWords code levels old new step before after d =
+    (t : Schedule) (h : History) → IsCode t code levels → before + weight t ≤ MAX_WEIGHT
+    → old ≡ held_of t h
+    → StepsCode t h new step.moment step.input d before after
+
+-- both parts are stepped
+abbrev pub StepsParts : Sizes → List ℕ → ℕ → List ℕ → List ℕ → Step → ℕ → ℕ → Decision × Decision
+    → Type 0
+StepsParts sizes code levels old new step before after d =
+    (a b : Schedule) (h : History) → IsParts a b sizes code levels
+    → before + weight a + weight b ≤ MAX_WEIGHT
+    → old ≡ held_of a h ++ held_of b h
+    → StepsBoth a b h new step.moment step.input d.0 d.1 before after
+
+-- the parts of `andThenEither` are stepped
+abbrev pub StepsInTurn : Sizes → List ℕ → ℕ → List ℕ → List ℕ → Step → ℕ → ℕ → Decision → Type 0
+StepsInTurn sizes code levels old new step before after d =
+    (a b : Schedule) (h : History) → IsParts a b sizes code levels
+    → before + weight a + weight b ≤ MAX_WEIGHT
+    → old ≡ held_of (two and_then a b) h → StepsThen a b h new step.moment step.input d before after

@@ -19,7 +19,8 @@ written text room = take (length room) text ++ drop (length text) room
 
 -- A number, a reply and the new content of a buffer are the result of a schedule at the last step
 -- of a history.
-pub record TellsAnswer (t : Schedule) (h : History) (number : ℕ) (r : Reply) (room out : List ℕ) : Type 0 where
+pub record TellsAnswer (t : Schedule) (h : History) (number : ℕ) (r : Reply) (room out : List ℕ) :
+    Type 0 where
   pub decision : number ≡ decision_number (answer_of t h).decision
   pub next : r.next ≡ next_moment (answer_of t h).decision
   pub text : out ≡ written (output_text (answer_of t h).output) room
@@ -27,9 +28,15 @@ pub record TellsAnswer (t : Schedule) (h : History) (number : ℕ) (r : Reply) (
   pub visited : r.visits ≡ visits t h
   pub at : r.at ≡ 0
 
+-- a number, a reply and a buffer are the result of every schedule and history whose result this is
+abbrev pub TellsStepped : Stepped → Reply → List ℕ → List ℕ → ℕ → Type 0
+TellsStepped s r room out number =
+    (t : Schedule) (h : History) → IsAnswer t h s → TellsAnswer t h number r room out
+
 -- The text spells a schedule, and the pairs are in order. The schedule's result at the last pair is
 -- returned.
-pub record IsAnswered (text : List ℕ) (pairs : List (ℕ × ℕ)) (number : ℕ) (r : Reply) (room out : List ℕ) : Type 0 where
+pub record IsAnswered (text : List ℕ) (pairs : List (ℕ × ℕ)) (number : ℕ) (r : Reply)
+    (room out : List ℕ) : Type 0 where
   pub term : Schedule
   pub spelled : SpellsSchedule text term
   pub some : 0 < length pairs

@@ -1,13 +1,15 @@
 -- Views of a step's output, read from the words of a state: for private contracts alone.
-use Rattle.std.specs.Prelude.{◌≡◌, ℕ, ◌<◌, List}
+use Rattle.std.specs.Prelude.{◌≡◌, ℕ, ◌+◌, ◌^◌, ◌<◌, List, ◌++◌, codes, length}
 use Rattle.zs_term.specs.Schedule.{Schedule}
 use Rattle.zs_term.specs.Output.{Output, number, pair, left, right}
+use Rattle.zs_term.specs.OutputText.{output_text}
 use Rattle.zs_step.specs.History.{History}
 use Rattle.zs_step.specs.Answer.{answer_of}
 use Rattle.zs_c.specs.declared.program.outputs.Place.{Place}
 use Rattle.zs_c.specs.declared.program.outputs.View.{View}
 use Rattle.zs_c.specs.declared.program.outputs.View.TheVariants.{Number, Pair, Left, Right}
 use Rattle.zs_c.specs.Code.{IsCode, held_of}
+use Rattle.zs_c.specs.Rooms.{written_at}
 
 -- Words represent an output: they are the state of a code's schedule after some history, and it is
 -- the output of the result there.
@@ -35,3 +37,27 @@ IsLower (Number n) levels = Unit {0}
 IsLower (Pair a b) levels = (a.levels < levels) × (b.levels < levels)
 IsLower (Left a) levels = a.levels < levels
 IsLower (Right b) levels = b.levels < levels
+
+-- ---- texts that are written from an index on, for every output that places may have
+
+-- the text of a pair, and its end
+abbrev pub PutsPair : Place → Place → ℕ → List ℕ → List ℕ → Type 0
+PutsPair a b at room new =
+    (x y : Output) → PlaceTells a x → PlaceTells b y → at + length (output_text (pair x y)) < 2 ^ 64
+    → new ≡ written_at at (output_text (pair x y)) room
+
+abbrev pub EndsPair : Place → Place → ℕ → ℕ → Type 0
+EndsPair a b at end =
+    (x y : Output) → PlaceTells a x → PlaceTells b y → at + length (output_text (pair x y)) < 2 ^ 64
+    → end ≡ at + length (output_text (pair x y))
+
+-- the text of a side after its name, and its end
+abbrev pub PutsSide : List ℕ → Place → ℕ → List ℕ → List ℕ → Type 0
+PutsSide side p at room new =
+    (o : Output) → PlaceTells p o → at + length (side ++ (output_text o ++ codes ")")) < 2 ^ 64
+    → new ≡ written_at at (side ++ (output_text o ++ codes ")")) room
+
+abbrev pub EndsSide : List ℕ → Place → ℕ → ℕ → Type 0
+EndsSide side p at end =
+    (o : Output) → PlaceTells p o → at + length (side ++ (output_text o ++ codes ")")) < 2 ^ 64
+    → end ≡ at + length (side ++ (output_text o ++ codes ")"))

@@ -3,7 +3,8 @@ use Rattle.std.specs.Prelude.{ℕ, suc, ◌*◌, ◌^◌, Option, Some, None, Li
 use Rattle.zs_term.specs.Saturating.{saturated}
 use Rattle.zs_term.specs.Schedule.{Leaf, plain, counted, exponential}
 use Rattle.zs_term.specs.declared.forms.Plain.TheVariants.{Forever, Identity, Elapsed}
-use Rattle.zs_term.specs.declared.forms.Counted.TheVariants.{Recurs, Spaced, Fixed, Fibonacci, Linear, Windowed}
+use Rattle.zs_term.specs.declared.forms.Counted.TheVariants.{Recurs, Spaced, Fixed, Fibonacci}
+use Rattle.zs_term.specs.declared.forms.Counted.TheVariants.{Linear, Windowed}
 use Rattle.zs_step.specs.History.{History, first_moment}
 use Rattle.zs_step.specs.Answer.{fibonacci_number, next_run}
 
@@ -27,7 +28,9 @@ leaf_words (counted Recurs k) h = saturated (length h) ∷ []
 leaf_words (counted Spaced d) h = saturated (length h) ∷ []
 leaf_words (counted Fixed p) h = saturated (length h) ∷ (first_moment h ∷ (next_run p h ∷ []))
 leaf_words (exponential b f) h = saturated (b * f ^ length h) ∷ []
-leaf_words (counted Fibonacci o) h = saturated (o * fibonacci_number (length h)) ∷ (saturated (o * fibonacci_number (suc (length h))) ∷ [])
+leaf_words (counted Fibonacci o) h =
+    saturated (o * fibonacci_number (length h))
+    ∷ (saturated (o * fibonacci_number (suc (length h))) ∷ [])
 leaf_words (plain Identity) h = []
 leaf_words (plain Elapsed) h = saturated (length h) ∷ (first_moment h ∷ [])
 leaf_words (counted Linear n) h = saturated (n * length h) ∷ []
@@ -35,6 +38,7 @@ leaf_words (counted Windowed n) h = saturated (length h) ∷ (first_moment h ∷
 
 -- The words of `andThenEither`: whether the first part is done, and both parts. The first part is
 -- as new once it is done, the second until then.
-abbrev pub sequel_words : Option History → (History → List ℕ) → (History → List ℕ) → History → List ℕ
+abbrev pub sequel_words : Option History → (History → List ℕ) → (History → List ℕ) → History
+    → List ℕ
 sequel_words None a b h = 0 ∷ (a h ++ b [])
 sequel_words (Some g) a b h = 1 ∷ (a [] ++ b g)

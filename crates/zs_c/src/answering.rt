@@ -1,14 +1,12 @@
 //! Reads the schedule of a text, and steps it through a list of pairs.
 
 ghost use Rattle.std.specs.Prelude.{◌≡◌, ◌≤◌, IfOk, IfErr, OnErr};
-ghost use Rattle.zs_term.specs.Schedule.{Schedule, schedule_of};
+ghost use Rattle.zs_term.specs.Schedule.{schedule_of};
 ghost use Rattle.zs_term.specs.Causes.{SpellsSchedule};
-ghost use Rattle.zs_step.specs.History.{History};
-ghost use Rattle.zs_step.specs.Compiled.{IsAnswer};
 ghost use Rattle.zs_c.specs.Pairs.{pairs_of};
 ghost use Rattle.zs_c.specs.Numbers.{decision_number, next_moment};
 ghost use Rattle.zs_c.specs.Refusals.{IsTextRefusal, IsRefusal};
-ghost use Rattle.zs_c.specs.Told.{HasAnswer, TellsAnswer};
+ghost use Rattle.zs_c.specs.Told.{HasAnswer, TellsStepped};
 ghost use Rattle.zs_c.specs.declared.refusal.Refusal.TheVariants.{Memory};
 
 use crate::following::{first_fall, last_answer};
@@ -60,9 +58,7 @@ pub(crate) fn told(
     reply: &mut Reply,
     out: &mut [u8],
 ) -> Result<u32, Refusal>
-    ensures ok { IfOk result (λ number.
-        (t : Schedule) (h : History) → IsAnswer t h stepped.now
-        → TellsAnswer t h number reply.new out.old out.new) }
+    ensures ok { IfOk result (TellsStepped stepped.now reply.new out.old out.new) }
     ensures told { IfOk result (λ number. number ≤ 1) }
     ensures err { IfErr result (λ why. why ≡ Memory) }
     ensures kept { OnErr result (out.new ≡ out.old) }

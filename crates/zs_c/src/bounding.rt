@@ -1,15 +1,50 @@
 //! What a schedule does for every input, as C reads it.
 
 ghost use Rattle.std.specs.Prelude.{◌≡◌, IfOk, IfErr};
-ghost use Rattle.zs_c.specs.Bounded.{IsBounded, bounds_told, has_bound, bound_told, no_bounds_told};
-ghost use Rattle.zs_c.specs.Refusals.{IsTextRefusal};
+ghost use Rattle.zs_c.specs.Bounded.{IsBounded, IsBoundsRefusal, bounds_told, bound_told, durations_of, has_bound, is_possible, no_bounds_told};
 
 use crate::answering::schedule_in;
 use crate::refusal::Refusal;
 use std::alloc::Global;
 use zs_bounds::{Bounds, Durations};
 
-/// What holds for every input and every duration of attempts. A field that says nothing is 0.
+/// How long each attempt takes, in milliseconds, as C says it.
+#[repr(C)]
+#[derive(Clone, Copy)]
+pub struct GivenDurations {
+    /// No attempt takes less: 1 or more.
+    pub least: u64,
+    /// 0 if attempts may take any time, else they take at most `most`.
+    pub has_most: u64,
+    /// No attempt takes more: `least` or more.
+    pub most: u64,
+}
+
+impl GivenDurations {
+    // Whether an attempt can take so long.
+    fn is_possible(self) -> bool
+        ensures value { result ≡ is_possible self }
+    {
+        0 < self.least && (self.has_most == 0 || self.least <= self.most)
+    }
+
+    // Converts durations from the form that C writes.
+    fn durations(self) -> Durations
+        ensures value { result ≡ durations_of self }
+    {
+        let most = if self.has_most == 0 {
+            None
+        } else {
+            Some(self.most)
+        };
+        Durations {
+            least: self.least,
+            most,
+        }
+    }
+}
+
+/// What holds for every input, if attempts take as long as C says. A field that says nothing is 0.
 #[repr(C)]
 #[derive(Drop)]
 pub struct BoundsTold {
@@ -27,6 +62,10 @@ pub struct BoundsTold {
     pub has_total: u64,
     /// All waits of a run together take at most this, in milliseconds.
     pub total: u64,
+    /// 1 if `longest_run` is a bound, else 0.
+    pub has_longest_run: u64,
+    /// Each attempt ends at most this long after the begin of the first, in milliseconds.
+    pub longest_run: u64,
 }
 
 impl BoundsTold {
@@ -42,6 +81,8 @@ impl BoundsTold {
             longest: bounds.longest,
             has_total: has_bound(bounds.total),
             total: bound_told(bounds.total),
+            has_longest_run: has_bound(bounds.longest_run),
+            longest_run: bound_told(bounds.longest_run),
         }
     }
 
@@ -57,17 +98,27 @@ impl BoundsTold {
             longest: 0,
             has_total: 0,
             total: 0,
+            has_longest_run: 0,
+            longest_run: 0,
         }
     }
 }
 
 // Returns the bounds of a text's schedule, over at most `steps` steps.
-pub(crate) fn bounds_in(alloc: Global, text: &[u8], steps: u64) -> Result<BoundsTold, Refusal>
-    ensures ok { IfOk result (IsBounded text.now steps) }
-    ensures err { IfErr result (IsTextRefusal text.now) }
+pub(crate) fn bounds_in(
+    alloc: Global,
+    text: &[u8],
+    given: GivenDurations,
+    steps: u64,
+) -> Result<BoundsTold, Refusal>
+    ensures ok { IfOk result (IsBounded text.now given steps) }
+    ensures err { IfErr result (IsBoundsRefusal text.now given) }
 {
+    if !given.is_possible() {
+        return Err(Refusal::NoDuration);
+    }
     let checked = schedule_in(alloc, text)?;
-    let bounds = zs_bounds::bounds(alloc, &checked, Durations::any(), steps)?;
+    let bounds = zs_bounds::bounds(alloc, &checked, given.durations(), steps)?;
     Ok(BoundsTold::of(bounds))
 }
 

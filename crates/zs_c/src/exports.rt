@@ -1,15 +1,15 @@
 //! The functions that C calls.
 
 ghost use Rattle.std.specs.Prelude.{◌≡◌, ◌<◌, ◌≤◌, length};
-ghost use Rattle.zs_c.specs.Bounded.{IsBounded, no_bounds_told};
+ghost use Rattle.zs_c.specs.Bounded.{IsBounded, IsBoundsRefusal, no_bounds_told};
 ghost use Rattle.zs_c.specs.Pairs.{pairs_of};
 ghost use Rattle.zs_c.specs.FaultText.{fault_text, version_number};
 ghost use Rattle.zs_c.specs.Numbers.{refusal_place};
 ghost use Rattle.zs_c.specs.Refusals.{SpellsSome};
-ghost use Rattle.zs_c.specs.Told.{IsAnswered, IsRefused, IsTextRefused, written};
+ghost use Rattle.zs_c.specs.Told.{IsAnswered, IsRefused, IsRefusedFor, IsTextRefused, written};
 
 use crate::answering::{answered, schedule_in, told};
-use crate::bounding::{BoundsTold, bounds_in};
+use crate::bounding::{BoundsTold, GivenDurations, bounds_in};
 use crate::refusal::Refusal;
 use crate::reply::Reply;
 use crate::room::{put, put_behind};
@@ -63,22 +63,25 @@ pub fn zs_answer(
     why.number()
 }
 
-/// Returns in `bounds` what the schedule of a text does for every input and every duration of
-/// attempts. At most `steps` steps are examined. Returns 0, or the number of an error, and sets
-/// `at` to the byte at which a fault shows, or to 0. After an error all fields of `bounds` are 0.
+/// Returns in `bounds` what the schedule of a text does for every input, if attempts take as long
+/// as `durations` says. At most `steps` steps are examined. Returns 0, or the number of an error,
+/// and sets `at` to the byte at which a fault shows, or to 0. After an error all fields of `bounds`
+/// are 0.
 pub fn zs_bounds(
     alloc: Global,
     text: &[u8],
+    durations: &GivenDurations,
     steps: u64,
     bounds: &mut BoundsTold,
     at: &mut u64,
 ) -> u32
-    ensures bounded { result ≡ 0 → IsBounded text.now steps bounds.new }
+    ensures bounded { result ≡ 0 → IsBounded text.now durations.now steps bounds.new }
     ensures nowhere { result ≡ 0 → at.new ≡ 0 }
-    ensures refused { 0 < result → IsTextRefused text.now result at.new }
+    ensures refused { 0 < result
+        → IsRefusedFor (IsBoundsRefusal text.now durations.now) result at.new }
     ensures nothing { 0 < result → bounds.new ≡ no_bounds_told }
 {
-    match bounds_in(alloc, text, steps) {
+    match bounds_in(alloc, text, *durations, steps) {
         Ok(told) => {
             *bounds = told;
             *at = 0;

@@ -20,7 +20,7 @@ mod room;
 mod seen;
 mod texts;
 
-pub use bounding::BoundsTold;
+pub use bounding::{BoundsTold, GivenDurations};
 pub use exports::{zs_answer, zs_bounds, zs_check, zs_fault_text, zs_version};
 pub use program::exports::{zs_compile, zs_program_begin, zs_program_size, zs_program_step};
 pub use program::laws::one_schedule;

@@ -23,6 +23,8 @@ pub(crate) enum Refusal {
     KeepsList,
     /// The words are fewer than the schedule's state has.
     NoRoom,
+    /// No attempt takes the given durations.
+    NoDuration,
     /// The text spells no schedule.
     Text { fault: TermFault },
 }
@@ -39,6 +41,7 @@ impl Refusal {
             Refusal::Memory => 5,
             Refusal::KeepsList => 6,
             Refusal::NoRoom => 7,
+            Refusal::NoDuration => 10,
             Refusal::Text { fault } => number_of(fault),
         }
     }
@@ -48,7 +51,11 @@ impl Refusal {
         ensures value { result ≡ refusal_place self }
     {
         match self {
-            Refusal::NoPair | Refusal::Memory | Refusal::KeepsList | Refusal::NoRoom => 0,
+            Refusal::NoPair
+            | Refusal::Memory
+            | Refusal::KeepsList
+            | Refusal::NoRoom
+            | Refusal::NoDuration => 0,
             Refusal::Falls { at } | Refusal::NotUtf8 { at } => at,
             Refusal::Text { fault } => place_of(fault),
         }

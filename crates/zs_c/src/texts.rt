@@ -16,6 +16,7 @@ pub(crate) fn fault_words(number: u32) -> &'static str
         7 => "the words are fewer than the state has",
         8 => "no program of this version, or one that was changed",
         9 => "the state of another program",
+        10 => "no attempt takes these durations",
         11 => "no term",
         12 => "too big",
         13 => "number too large",

@@ -1,14 +1,14 @@
 //! The calls that take the text of a schedule.
 
 ghost use Rattle.std.specs.Prelude.{◌≡◌, ◌<◌, ◌≤◌, length};
-ghost use Rattle.zs_c.specs.Bounded.{IsBounded, no_bounds_told};
+ghost use Rattle.zs_c.specs.Bounded.{IsBounded, IsBoundsRefusal, no_bounds_told};
 ghost use Rattle.zs_c.specs.Pairs.{pairs_of};
 ghost use Rattle.zs_c.specs.FaultText.{fault_text, version_number};
 ghost use Rattle.zs_c.specs.Refusals.{SpellsSome};
-ghost use Rattle.zs_c.specs.Told.{IsAnswered, IsRefused, IsTextRefused, written};
+ghost use Rattle.zs_c.specs.Told.{IsAnswered, IsRefused, IsRefusedFor, IsTextRefused, written};
 
 use std::alloc::Global;
-use zs_c::{BoundsTold, Reply, Seen};
+use zs_c::{BoundsTold, GivenDurations, Reply, Seen};
 
 /// Checks whether a text spells a schedule. Returns 0 if it does, else the number of the reason.
 /// Sets `at` to the byte at which a fault shows, or to 0.
@@ -40,23 +40,26 @@ pub extern "C" fn zs_answer(
     zs_c::zs_answer(alloc, text, seen, reply, out)
 }
 
-/// Returns in `bounds` what the schedule of a text does for every input and every duration of
-/// attempts. At most `steps` steps are examined. Returns 0, or the number of an error, and sets
-/// `at` to the byte at which a fault shows, or to 0. After an error all fields of `bounds` are 0.
+/// Returns in `bounds` what the schedule of a text does for every input, if attempts take as long
+/// as `durations` says. At most `steps` steps are examined. Returns 0, or the number of an error,
+/// and sets `at` to the byte at which a fault shows, or to 0. After an error all fields of `bounds`
+/// are 0.
 #[unsafe(no_mangle)]
 pub extern "C" fn zs_bounds(
     alloc: Global,
     text: &[u8],
+    durations: &GivenDurations,
     steps: u64,
     bounds: &mut BoundsTold,
     at: &mut u64,
 ) -> u32
-    ensures bounded { result ≡ 0 → IsBounded text.now steps bounds.new }
+    ensures bounded { result ≡ 0 → IsBounded text.now durations.now steps bounds.new }
     ensures nowhere { result ≡ 0 → at.new ≡ 0 }
-    ensures refused { 0 < result → IsTextRefused text.now result at.new }
+    ensures refused { 0 < result
+        → IsRefusedFor (IsBoundsRefusal text.now durations.now) result at.new }
     ensures nothing { 0 < result → bounds.new ≡ no_bounds_told }
 {
-    zs_c::zs_bounds(alloc, text, steps, bounds, at)
+    zs_c::zs_bounds(alloc, text, durations, steps, bounds, at)
 }
 
 /// Writes the text of a number, and of the place that goes with it, to the front of `out`, as far

@@ -1,9 +1,9 @@
 //! The words of a state before any step.
 
-ghost use Rattle.std.specs.Prelude.{◌≡◌, ◌+◌, [], ◌++◌, length};
+ghost use Rattle.std.specs.Prelude.{◌≡◌, [], length};
 ghost use Rattle.zs_term.specs.Schedule.{Schedule};
 ghost use Rattle.zs_c.specs.Code.{IsCode, held_of, held_size};
-ghost use Rattle.zs_c.specs.Node.{IsParts};
+ghost use Rattle.zs_c.specs.Steps.{ClearsParts};
 
 use crate::program::leaf::clear_leaf;
 use crate::program::node::{Node, Sizes, behind, front, read_node};
@@ -36,9 +36,7 @@ pub(crate) fn clear(code: &[u64], words: &mut [u64], levels: u64)
 // The same for two parts.
 #[cycle(clearing)]
 fn clear_parts(code: &[u64], words: &mut [u64], sizes: Sizes, levels: u64)
-    ensures clears { (a b : Schedule) → IsParts a b sizes code.now levels
-        → length words.old ≡ held_size a + held_size b
-        → words.new ≡ held_of a [] ++ held_of b [] }
+    ensures clears { ClearsParts sizes code.now levels words.old words.new }
 {
     let (rest, size, state) = (behind(code, 3), sizes.code as usize, sizes.state as usize);
     if state <= words.len() {

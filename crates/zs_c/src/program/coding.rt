@@ -1,10 +1,10 @@
 //! Writes a term as a program.
 
-ghost use Rattle.std.specs.Prelude.{◌≡◌, ◌⊎◌, ◌+◌, ◌*◌, ◌≤◌, true, false, [], ◌∷◌, ◌++◌, length, IfOk, IfErr};
+ghost use Rattle.std.specs.Prelude.{◌≡◌, ◌⊎◌, ◌+◌, ◌*◌, ◌≤◌, true, false, [], ◌++◌, length, IfOk, IfErr};
 ghost use Rattle.zs_term.specs.Schedule.{schedule_of, weight};
 ghost use Rattle.zs_term.specs.declared.limits.TheConstants.{MAX_WEIGHT};
 ghost use Rattle.zs_step.specs.Memory.{keeps_no_list};
-ghost use Rattle.zs_c.specs.Code.{code_of, held_of, held_size, cmp_word, pick_word, func_word, func_number};
+ghost use Rattle.zs_c.specs.Code.{ListsOne, code_of, held_of, held_size, pair_code, cmp_word, pick_word, func_word, func_number};
 ghost use Rattle.zs_c.specs.Program.{program_of, program_state};
 ghost use Rattle.zs_c.specs.declared.refusal.Refusal.TheVariants.{Memory, KeepsList};
 
@@ -103,11 +103,7 @@ fn write_parts(
 ) -> Result<u64, Refusal>
     requires small { weight (schedule_of a.now) + weight (schedule_of b.now) ≤ MAX_WEIGHT }
     ensures code { IfOk result (λ _. code.new.items
-        ≡ code.old.items
-        ++ (tag
-        ∷ (length (code_of (schedule_of a.now))
-        ∷ (held_size (schedule_of a.now)
-        ∷ (code_of (schedule_of a.now) ++ code_of (schedule_of b.now)))))) }
+        ≡ code.old.items ++ pair_code tag (schedule_of a.now) (schedule_of b.now)) }
     ensures state { IfOk result (λ n. n
         ≡ held_size (schedule_of a.now) + held_size (schedule_of b.now)) }
     ensures bound { IfOk result (λ n. n
@@ -115,9 +111,7 @@ fn write_parts(
     ensures flat { IfOk result (λ _. (keeps_no_list (schedule_of a.now) ≡ true)
         × (keeps_no_list (schedule_of b.now) ≡ true)) }
     ensures err { IfErr result (λ why. (why ≡ Memory) ⊎ (why ≡ KeepsList)) }
-    ensures listed { IfErr result (λ why. why ≡ KeepsList
-        → (keeps_no_list (schedule_of a.now) ≡ false)
-        ⊎ (keeps_no_list (schedule_of b.now) ≡ false)) }
+    ensures listed { IfErr result (ListsOne (schedule_of a.now) (schedule_of b.now)) }
 {
     let mut first = Vec::new(alloc);
     let state = write_code(alloc, a, &mut first)?;

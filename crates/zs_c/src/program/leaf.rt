@@ -1,12 +1,11 @@
 //! A leaf of a program: read from its code, loaded from the words of its state, stepped, and stored
 //! back.
 
-ghost use Rattle.std.specs.Prelude.{◌≡◌, ◌≤◌, [], ◌∷◌, ◌++◌, length, drop};
+ghost use Rattle.std.specs.Prelude.{◌≡◌, ◌∷◌};
 ghost use Rattle.zs_step.specs.History.{History};
-ghost use Rattle.zs_step.specs.Answer.{leaf_answer};
 ghost use Rattle.zs_step.specs.LeafState.{state_leaf};
 ghost use Rattle.zs_c.specs.Code.{leaf_held};
-ghost use Rattle.zs_c.specs.Leaves.{new_leaf, rule_at, loaded, stored, if_begun, past_in, first_in};
+ghost use Rattle.zs_c.specs.Leaves.{ClearsLeaf, DecidesLeaf, Stores, new_leaf, rule_at, loaded, stored, if_begun, past_in, first_in};
 
 use crate::program::node::word;
 use crate::room::put_words;
@@ -70,9 +69,7 @@ pub(crate) fn read_leaf(code: &[u64]) -> Leaf
 
 // Resets the words of a leaf that is as before any step.
 pub(crate) fn clear_leaf(leaf: Leaf, words: &mut [u64])
-    ensures clears { leaf ≡ new_leaf (state_leaf leaf)
-        → length words.old ≡ length (leaf_held (state_leaf leaf) [])
-        → words.new ≡ leaf_held (state_leaf leaf) [] }
+    ensures clears { ClearsLeaf leaf words.old words.new }
 {
     store(&leaf, 0, words);
 }
@@ -81,9 +78,7 @@ pub(crate) fn clear_leaf(leaf: Leaf, words: &mut [u64])
 pub(crate) fn step_leaf(leaf: Leaf, words: &mut [u64], step: &Step) -> Decision
     ensures held { (h : History) → words.old ≡ leaf_held (state_leaf leaf) h
         → words.new ≡ leaf_held (state_leaf leaf) ((step.now.moment, step.now.input) ∷ h) }
-    ensures decides { (h : History) → words.old ≡ leaf_held (state_leaf leaf) h
-        → result
-        ≡ (leaf_answer (state_leaf leaf) ((step.now.moment, step.now.input) ∷ h)).decision }
+    ensures decides { DecidesLeaf leaf words.old step.now result }
 {
     let mut stepped = leaf;
     load(&mut stepped, words);
@@ -146,9 +141,7 @@ fn load_past(words: &[u64]) -> Option<Past>
 // which some leaves store.
 #[inline(always)]
 fn store(leaf: &Leaf, steps: u64, words: &mut [u64])
-    ensures stored { length (stored leaf.now steps) ≤ length words.old
-        → words.new
-        ≡ stored leaf.now steps ++ drop (length (stored leaf.now steps)) words.old }
+    ensures stored { Stores leaf.now steps words.old words.new }
 {
     let output = leaf.output();
     match leaf {

@@ -1,11 +1,11 @@
 //! The text of an output, written directly from the words that represent it.
 
-ghost use Rattle.std.specs.Prelude.{◌≡◌, ◌+◌, ◌^◌, ◌<◌, [], ◌∷◌, ◌++◌, codes, length};
+ghost use Rattle.std.specs.Prelude.{◌≡◌, ◌+◌, ◌^◌, ◌<◌, [], ◌∷◌, length};
 ghost use Rattle.std.specs.Fmt.{decimal};
-ghost use Rattle.zs_term.specs.Output.{Output, pair};
+ghost use Rattle.zs_term.specs.Output.{Output};
 ghost use Rattle.zs_term.specs.OutputText.{output_text};
 ghost use Rattle.zs_c.specs.Rooms.{written_at};
-ghost use Rattle.zs_c.specs.View.{PlaceTells};
+ghost use Rattle.zs_c.specs.View.{EndsPair, EndsSide, PlaceTells, PutsPair, PutsSide};
 
 use crate::program::node::{Node, read_node, word};
 use crate::program::outputs::{Place, View, part, parts, read_view};
@@ -45,12 +45,8 @@ pub(crate) fn put_output(place: Place<'_>, room: &mut [u8], at: usize) -> usize
 #[inline(always)]
 #[cycle(texts)]
 fn put_pair(first: Place<'_>, second: Place<'_>, room: &mut [u8], at: usize) -> usize
-    ensures text { (x y : Output) → PlaceTells first.entry x → PlaceTells second.entry y
-        → at + length (output_text (pair x y)) < 2 ^ 64
-        → room.new ≡ written_at at (output_text (pair x y)) room.old }
-    ensures end { (x y : Output) → PlaceTells first.entry x → PlaceTells second.entry y
-        → at + length (output_text (pair x y)) < 2 ^ 64
-        → result ≡ at + length (output_text (pair x y)) }
+    ensures text { PutsPair first.entry second.entry at room.old room.new }
+    ensures end { EndsPair first.entry second.entry at result }
 {
     let start = put_byte(b'(', room, at);
     let comma = put_output(first, room, start);
@@ -62,14 +58,8 @@ fn put_pair(first: Place<'_>, second: Place<'_>, room: &mut [u8], at: usize) -> 
 // Writes the text of one side of a choice: `side`, the output and a bracket.
 #[cycle(texts)]
 fn put_side(side: &[u8], part: Place<'_>, room: &mut [u8], at: usize) -> usize
-    ensures text { (o : Output) → PlaceTells part.entry o
-        → at + length (side.now ++ (output_text o ++ codes ")")) < 2 ^ 64
-        → room.new ≡ written_at at (side.now ++ (output_text o ++ codes ")")) room.old }
-    ensures end { (o : Output) → PlaceTells part.entry o
-        → at
-        + length
-        (side.now ++ (output_text o ++ codes ")")) < 2 ^ 64 → result ≡ at + length (side.now
-        ++ (output_text o ++ codes ")")) }
+    ensures text { PutsSide side.now part.entry at room.old room.new }
+    ensures end { EndsSide side.now part.entry at result }
 {
     put_behind(room, at, side);
     let end = put_output(part, room, at.saturating_add(side.len()));

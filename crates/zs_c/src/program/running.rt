@@ -2,15 +2,12 @@
 
 ghost use Rattle.std.specs.Prelude.{◌≡◌, ◌+◌, ◌≤◌, List, ℕ, [], ◌∷◌, length, drop, slice_index_or, IfOk, IfErr};
 ghost use Rattle.zs_term.specs.OutputText.{output_text};
-ghost use Rattle.zs_term.specs.Schedule.{Schedule, weight};
-ghost use Rattle.zs_term.specs.declared.limits.TheConstants.{MAX_DEPTH, MAX_WEIGHT};
-ghost use Rattle.zs_step.specs.History.{History};
-ghost use Rattle.zs_step.specs.Answer.{answer_of};
-ghost use Rattle.zs_c.specs.Code.{IsCode, held_of};
+ghost use Rattle.zs_term.specs.Schedule.{Schedule};
+ghost use Rattle.zs_term.specs.declared.limits.TheConstants.{MAX_DEPTH};
 ghost use Rattle.zs_c.specs.Told.{written};
 ghost use Rattle.zs_c.specs.Program.{IsChecked, IsProgram};
-ghost use Rattle.zs_c.specs.Opened.{Opens};
-ghost use Rattle.zs_c.specs.Programs.{IsUnfit, IsDenied, IsProgramBegun, IsProgramStepped, IsStepSafe};
+ghost use Rattle.zs_c.specs.Opened.{OfEachOutput, Opens, StepsOpened};
+ghost use Rattle.zs_c.specs.Programs.{IsUnfit, IsDenied, IsProgramBegun, IsStepSafe};
 
 use crate::program::clearing::clear;
 use crate::program::denial::Denial;
@@ -87,9 +84,8 @@ pub(crate) fn run_step(
 ) -> u32
     requires fits { opened.state + 2 ≤ length state.old }
     ensures told { result ≤ 1 }
-    ensures stepped { (t : Schedule) → Opens opened.entry t
-        → IsProgramStepped t state.old state.new step.now.moment step.now.input result reply.new
-        out.old out.new }
+    ensures stepped { StepsOpened opened.entry state.old state.new step.now reply.new out.old
+        out.new result }
     ensures safe { (program : List ℕ) → opened.entry.state ≡ slice_index_or program 3 0
         → IsStepSafe program state.old state.new step.now.moment }
 {
@@ -115,12 +111,8 @@ pub(crate) fn run_step(
 // Returns the length of the text in bytes.
 #[inline(always)]
 fn put_text(code: &[u64], words: &[u64], out: &mut [u8]) -> u64
-    ensures text { (t : Schedule) (h : History) → IsCode t code.now MAX_DEPTH
-        → weight t ≤ MAX_WEIGHT → words.now ≡ held_of t h
-        → out.new ≡ written (output_text (answer_of t h).output) out.old }
-    ensures size { (t : Schedule) (h : History) → IsCode t code.now MAX_DEPTH
-        → weight t ≤ MAX_WEIGHT → words.now ≡ held_of t h
-        → result ≡ length (output_text (answer_of t h).output) }
+    ensures text { OfEachOutput code.now words.now (λ o. out.new ≡ written (output_text o) out.old) }
+    ensures size { OfEachOutput code.now words.now (λ o. result ≡ length (output_text o)) }
 {
     let place = Place {
         code,

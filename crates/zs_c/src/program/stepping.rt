@@ -1,13 +1,9 @@
 //! One step of a code, in the words of its state.
 
-ghost use Rattle.std.specs.Prelude.{◌≡◌, ℕ, ◌+◌, ◌≤◌, ◌++◌};
+ghost use Rattle.std.specs.Prelude.{◌≡◌, ℕ, ◌+◌};
 ghost use Rattle.zs_term.specs.Output.{Output, passes, picked};
-ghost use Rattle.zs_term.specs.Schedule.{Schedule, weight, two, and_then};
 ghost use Rattle.zs_term.specs.declared.limits.TheConstants.{MAX_WEIGHT};
-ghost use Rattle.zs_step.specs.History.{History};
-ghost use Rattle.zs_c.specs.Code.{IsCode, held_of};
-ghost use Rattle.zs_c.specs.Node.{IsParts};
-ghost use Rattle.zs_c.specs.Steps.{StepsCode, StepsBoth, StepsThen};
+ghost use Rattle.zs_c.specs.Steps.{StepsWords, StepsParts, StepsInTurn};
 ghost use Rattle.zs_c.specs.View.{Tells};
 
 use crate::program::clearing::clear;
@@ -27,10 +23,8 @@ pub(crate) fn step_code(
     step: &Step,
     visits: &mut u64,
 ) -> Decision
-    ensures steps { (t : Schedule) (h : History) → IsCode t code.now levels
-        → visits.old + weight t ≤ MAX_WEIGHT
-        → words.old ≡ held_of t h
-        → StepsCode t h words.new step.now.moment step.now.input result visits.old visits.new }
+    ensures steps { StepsWords code.now levels words.old words.new step.now visits.old visits.new
+        result }
 {
     if levels == 0 || *visits >= MAX_WEIGHT {
         return Decision::Stop;
@@ -93,11 +87,8 @@ fn step_parts(
     step: &Step,
     visits: &mut u64,
 ) -> (Decision, Decision)
-    ensures steps { (a b : Schedule) (h : History) → IsParts a b sizes code.now levels
-        → visits.old + weight a + weight b ≤ MAX_WEIGHT
-        → words.old ≡ held_of a h ++ held_of b h
-        → StepsBoth a b h words.new step.now.moment step.now.input result.0 result.1 visits.old
-        visits.new }
+    ensures steps { StepsParts sizes code.now levels words.old words.new step.now visits.old
+        visits.new result }
 {
     let (rest, size, state) = (behind(code, 3), sizes.code as usize, sizes.state as usize);
     if words.len() < state {
@@ -125,10 +116,8 @@ fn step_and_then(
     step: &Step,
     visits: &mut u64,
 ) -> Decision
-    ensures steps { (a b : Schedule) (h : History) → IsParts a b sizes code.now levels
-        → visits.old + weight a + weight b ≤ MAX_WEIGHT
-        → words.old ≡ held_of (two and_then a b) h
-        → StepsThen a b h words.new step.now.moment step.now.input result visits.old visits.new }
+    ensures steps { StepsInTurn sizes code.now levels words.old words.new step.now visits.old
+        visits.new result }
 {
     let (rest, size, state) = (behind(code, 3), sizes.code as usize, sizes.state as usize);
     if words.len() <= state {
