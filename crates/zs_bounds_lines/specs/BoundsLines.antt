@@ -17,12 +17,14 @@ limit_text (Some n) = decimal n
 
 -- the least and the most of something
 abbrev pub range_text : ℕ → Option ℕ → List ℕ
-range_text least most = codes "{\"least\":" ++ decimal least ++ codes ",\"most\":" ++ limit_text most ++ codes "}"
+range_text least most =
+    codes "{\"least\":" ++ decimal least ++ codes ",\"most\":" ++ limit_text most ++ codes "}"
 
 -- the longest wait, all waits, and the longest run
 abbrev pub times_text : Bounds → List ℕ
 times_text b =
-    codes ",\"longest_wait\":" ++ decimal b.longest ++ codes ",\"total_wait\":" ++ limit_text b.total ++ codes ",\"longest_run\":" ++ limit_text b.longest_run
+    codes ",\"longest_wait\":" ++ decimal b.longest ++ codes ",\"total_wait\":"
+    ++ limit_text b.total ++ codes ",\"longest_run\":" ++ limit_text b.longest_run
 
 -- the steps that were looked at, and the end of the line
 abbrev pub steps_text : Bounds → List ℕ
@@ -31,12 +33,14 @@ steps_text b = codes ",\"steps_seen\":" ++ decimal b.seen ++ codes "}\n"
 -- the line of a policy with these durations of attempts and these bounds
 abbrev pub json_line : List ℕ → Durations → Bounds → List ℕ
 json_line policy d b =
-    codes "{\"policy\":\"" ++ policy ++ codes "\",\"attempt\":" ++ range_text d.least d.most ++ codes ",\"attempts\":" ++ range_text b.least b.most
+    codes "{\"policy\":\"" ++ policy ++ codes "\",\"attempt\":"
+    ++ range_text d.least d.most ++ codes ",\"attempts\":" ++ range_text b.least b.most
     ++ times_text b ++ steps_text b
 
 -- the line of a policy, as its canonical spelling, with the bounds of it
 abbrev pub bounds_line : Options → Schedule → List ℕ
-bounds_line options s = json_line (canonical_text s) options.attempt (bounds_of s options.attempt options.steps)
+bounds_line options s =
+    json_line (canonical_text s) options.attempt (bounds_of s options.attempt options.steps)
 
 -- what is written for a line: nothing if it has no policy
 abbrev pub line_text : Options → Result (Option Schedule) PolicyFault → Result (List ℕ) PolicyFault
@@ -46,7 +50,8 @@ line_text options (Err fault) = Err fault
 
 infixl 10 ◌>>=◌
 -- what comes next, unless a line is rejected
-abbrev pub ◌>>=◌ : {A B : Type 0} → Result A PolicyFault → (A → Result B PolicyFault) → Result B PolicyFault
+abbrev pub ◌>>=◌ : {A B : Type 0} → Result A PolicyFault
+    → (A → Result B PolicyFault) → Result B PolicyFault
 (Ok x) >>= f = f x
 (Err e) >>= f = Err e
 

@@ -1,6 +1,7 @@
 -- The policy of a line. A carriage return at the end of a line isn't part of it. An empty line, and
 -- one that begins with `#`, has no policy.
-use Rattle.std.specs.Prelude.{ℕ, List, [], ◌∷◌, ◌==◌, Bool, true, if◌then◌else◌, Option, Some, None, Result, Ok, Err}
+use Rattle.std.specs.Prelude.{ℕ, List, [], ◌∷◌, ◌==◌, Bool, true, if◌then◌else◌, Option, Some, None}
+use Rattle.std.specs.Prelude.{Result, Ok, Err}
 use Rattle.std.specs.Str.{is_utf8}
 use Rattle.zs_term.specs.Schedule.{Schedule}
 use Rattle.zs_term.specs.Verdict.{verdict_of}
@@ -30,4 +31,5 @@ policy_in text = if is_passed_over text then Ok None else judged (verdict_of tex
 
 -- the policy of a line, if it has one
 unfoldable pub policy_of : List ℕ → Result (Option Schedule) PolicyFault
-policy_of line = let text = without_return line in if is_utf8 text then policy_in text else Err NotUtf8
+policy_of line = let text = without_return line in
+    if is_utf8 text then policy_in text else Err NotUtf8

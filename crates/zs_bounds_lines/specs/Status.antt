@@ -1,7 +1,8 @@
 -- The exit status for each ending.
 use Rattle.std.specs.Prelude.{ℕ, Result, Ok, Err}
 use Rattle.zs_bounds_lines.specs.declared.fault.BoundsFault.{BoundsFault}
-use Rattle.zs_bounds_lines.specs.declared.fault.BoundsFault.TheVariants.{Read, Line, Memory, Write, Words}
+use Rattle.zs_bounds_lines.specs.declared.fault.BoundsFault.TheVariants.{Read, Line, Memory, Write}
+use Rattle.zs_bounds_lines.specs.declared.fault.BoundsFault.TheVariants.{Words}
 
 -- 2 for a rejected line or wrong words, 3 if reading or writing failed, 4 without memory
 abbrev pub status_of : BoundsFault → ℕ

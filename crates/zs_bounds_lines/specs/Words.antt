@@ -1,5 +1,7 @@
 -- The request that the words of a command line are.
-use Rattle.std.specs.Prelude.{◌≡◌, ℕ, ◌+◌, ◌*◌, ◌-◌, List, [], ◌∷◌, length, take, drop, codes, bytes_eq, nat_le, nat_lt, ◌==◌, ◌&&◌, true, false, if◌then◌else◌, Option, Some, None, option_and_then, Result, Ok, Err}
+use Rattle.std.specs.Prelude.{◌≡◌, ℕ, ◌+◌, ◌*◌, ◌-◌, List, [], ◌∷◌, length, take, drop, codes}
+use Rattle.std.specs.Prelude.{bytes_eq, nat_le, nat_lt, ◌==◌, ◌&&◌, true, false, if◌then◌else◌}
+use Rattle.std.specs.Prelude.{Option, Some, None, option_and_then, Result, Ok, Err}
 use Rattle.std.specs.Char.{is_ascii_digit}
 use Rattle.std.specs.Io.KnownBytes.{Appends}
 use Rattle.zs_term.specs.Saturating.{max_moment}
@@ -8,7 +10,8 @@ use Rattle.zs_bounds.specs.declared.durations.Durations.{Durations}
 use Rattle.zs_run.specs.Headline.{Reading, Writing}
 use Rattle.zs_bounds_lines.specs.Ending.{Ends}
 use Rattle.zs_bounds_lines.specs.declared.fault.BoundsFault.{BoundsFault}
-use Rattle.zs_bounds_lines.specs.declared.fault.BoundsFault.TheVariants.{Read, Line, Memory, Write, Words}
+use Rattle.zs_bounds_lines.specs.declared.fault.BoundsFault.TheVariants.{Read, Line, Memory, Write}
+use Rattle.zs_bounds_lines.specs.declared.fault.BoundsFault.TheVariants.{Words}
 use Rattle.zs_bounds_lines.specs.declared.fault.OptionFault.{OptionFault}
 use Rattle.zs_bounds_lines.specs.declared.fault.OptionFault.TheVariants.{Unknown, Steps, Attempt}
 use Rattle.zs_bounds_lines.specs.declared.options.Options.{Options}
@@ -21,7 +24,8 @@ use Rattle.zs_bounds_lines.specs.declared.words.Request.TheVariants.{Help, Versi
 abbrev pub digits_from : ℕ → ℕ → List ℕ → Option (ℕ × ℕ)
 digits_from n count [] = Some (n, count)
 digits_from n count (b ∷ bs) =
-    if is_ascii_digit b then (if nat_le (n * 10 + (b - 48)) max_moment then digits_from (n * 10 + (b - 48)) (count + 1) bs else None) else Some (n, count)
+    if is_ascii_digit b then (if nat_le (n * 10 + (b - 48)) max_moment
+    then digits_from (n * 10 + (b - 48)) (count + 1) bs else None) else Some (n, count)
 
 -- the number, if the text is digits alone
 abbrev pub whole : List ℕ → ℕ × ℕ → Option ℕ
@@ -47,7 +51,8 @@ scaled n unit = if nat_le (n * unit) max_moment then Some (n * unit) else None
 
 -- the duration that digits and a unit after them are
 abbrev pub measured : List ℕ → ℕ × ℕ → Option ℕ
-measured text found = if nat_lt 0 found.1 then option_and_then (scaled found.0) (unit_of (drop found.1 text)) else None
+measured text found = if nat_lt 0 found.1
+    then option_and_then (scaled found.0) (unit_of (drop found.1 text)) else None
 
 -- the duration that a text is, as `5s` or `20ms`, in milliseconds
 abbrev pub duration_of : List ℕ → Option ℕ
@@ -64,12 +69,14 @@ abbrev pub durations_between : Option ℕ → Option ℕ → Option Durations
 durations_between None most = None
 durations_between (Some least) None = None
 durations_between (Some least) (Some most) =
-    if nat_le 1 least && nat_le least most then Some (record { least = least; most = Some most }) else None
+    if nat_le 1 least && nat_le least most then Some (record { least = least; most = Some most })
+    else None
 
 -- the durations that a text is, by the place of its dots; without dots it is the most
 abbrev pub durations_at : List ℕ → Option ℕ → Option Durations
 durations_at text None = durations_between (Some 1) (duration_of text)
-durations_at text (Some at) = durations_between (duration_of (take at text)) (duration_of (drop (at + 2) text))
+durations_at text (Some at) =
+    durations_between (duration_of (take at text)) (duration_of (drop (at + 2) text))
 
 -- the durations that a text is, as `5s` or `20ms..5s`
 unfoldable pub durations_of : List ℕ → Option Durations
@@ -93,34 +100,41 @@ with_attempt (Some attempt) options = Ok (record { attempt = attempt; steps = op
 unfoldable pub with_option : List ℕ → List ℕ → Options → Result Options OptionFault
 with_option name value options =
     if bytes_eq name (codes "--steps") then with_steps (number_of value) options
-    else (if bytes_eq name (codes "--attempt") then with_attempt (durations_of value) options else Err Unknown)
+    else (if bytes_eq name (codes "--attempt") then with_attempt (durations_of value) options
+    else Err Unknown)
 
 -- a request that a word is alone, or the one that follows from the words after it
 unfoldable pub unless_alone : List ℕ → Result Request OptionFault → Result Request OptionFault
-unless_alone name rest = if bytes_eq name (codes "--help") then Ok Help else (if bytes_eq name (codes "--version") then Ok Version else rest)
+unless_alone name rest = if bytes_eq name (codes "--help") then Ok Help
+    else (if bytes_eq name (codes "--version") then Ok Version else rest)
 
 -- what comes next, unless an option is wrong
-abbrev pub and_then : Result Options OptionFault → (Options → Result Request OptionFault) → Result Request OptionFault
+abbrev pub and_then : Result Options OptionFault
+    → (Options → Result Request OptionFault) → Result Request OptionFault
 and_then (Ok options) next = next options
 and_then (Err fault) next = Err fault
 
 -- the request of words, after those of some options; a value that is missing is empty
 abbrev pub request_from : Options → List (List ℕ) → Result Request OptionFault
 request_from options [] = Ok (Run options)
-request_from options (name ∷ []) = unless_alone name (and_then (with_option name [] options) (λ new. Ok (Run new)))
-request_from options (name ∷ (value ∷ words)) = unless_alone name (and_then (with_option name value options) (λ new. request_from new words))
+request_from options (name ∷ []) =
+    unless_alone name (and_then (with_option name [] options) (λ new. Ok (Run new)))
+request_from options (name ∷ (value ∷ words)) =
+    unless_alone name (and_then (with_option name value options) (λ new. request_from new words))
 
 -- This text was written and flushed, or its first bytes were.
 abbrev pub WroteText : List ℕ → Result (Unit {0}) BoundsFault → Writing → Type 0
 WroteText text (Ok done) w = (w.failed ≡ false) × Appends w.before w.taken text × (w.flushed ≡ true)
-WroteText text (Err Write) w = (w.failed ≡ true) × ((sent : ℕ) × Appends w.before w.taken (take sent text))
+WroteText text (Err Write) w =
+    (w.failed ≡ true) × ((sent : ℕ) × Appends w.before w.taken (take sent text))
 WroteText text (Err Read) w = ⊥
 WroteText text (Err Memory) w = ⊥
 WroteText text (Err (Line line fault)) w = ⊥
 WroteText text (Err (Words fault)) w = ⊥
 
 -- How the program ends, by its request.
-abbrev pub ProgramEnds : Result Request OptionFault → Result (Unit {0}) BoundsFault → Reading → Writing → Type 0 → Type 0
+abbrev pub ProgramEnds : Result Request OptionFault
+    → Result (Unit {0}) BoundsFault → Reading → Writing → Type 0 → Type 0
 ProgramEnds (Ok Help) result r w Untouched = WroteText HELP.now result w
 ProgramEnds (Ok Version) result r w Untouched = WroteText VERSION.now result w
 ProgramEnds (Ok (Run options)) result r w Untouched = Ends options result r w Untouched

@@ -20,7 +20,8 @@ IsWhole (suc n) flushed Untouched = flushed ≡ true
 -- Some blocks were read, run, written and counted. `ahead` are the bytes that the reader and the
 -- buffer had before and have now, `before` and `taken` those of the writer.
 pub record IsDone (clock : Ticks) (ahead ahead_now : Option (List ℕ))
-    (names : BTreeSet (String Global)) (blocks polls sent : ℕ) (before taken : Option (List ℕ)) : Type 0 where
+    (names : BTreeSet (String Global)) (blocks polls sent : ℕ)
+    (before taken : Option (List ℕ)) : Type 0 where
   pub lines : List (List ℕ)
   pub jobs : List JobRecord
   pub read : Took ahead ahead_now lines

@@ -1,6 +1,7 @@
 -- How the run of a population ends: for success and each fault, what was read, what was written,
 -- and which of the two failed.
-use Rattle.std.specs.Prelude.{◌≡◌, ◌≢◌, ◌≤◌, ℕ, zero, suc, ◌*◌, ◌-◌, ◌/◌, List, [], ◌++◌, length, take, true, false, Option, Some, Result, Ok, Err, IfSome}
+use Rattle.std.specs.Prelude.{◌≡◌, ◌≢◌, ◌≤◌, ℕ, zero, suc, ◌*◌, ◌-◌, ◌/◌, List, [], ◌++◌, length}
+use Rattle.std.specs.Prelude.{take, true, false, Option, Some, Result, Ok, Err, IfSome}
 use Rattle.std.specs.Io.KnownBytes.{Appends}
 use Rattle.zs_run.specs.Headline.{Reading, Writing}
 use Rattle.zs_run.specs.Plan.{PlanRecord}
@@ -9,7 +10,8 @@ use Rattle.zs_run.specs.declared.plan_fault.PlanFault.TheVariants as faults
 use Rattle.zs_lines.specs.Lines.{lines_of}
 use Rattle.zs_population.specs.Population.{Refusal, block_jobs, population_of}
 use Rattle.zs_population.specs.declared.fault.PopulationFault.{PopulationFault}
-use Rattle.zs_population.specs.declared.fault.PopulationFault.TheVariants.{Read, Line, Engine, Write}
+use Rattle.zs_population.specs.declared.fault.PopulationFault.TheVariants.{Read, Line, Engine}
+use Rattle.zs_population.specs.declared.fault.PopulationFault.TheVariants.{Write}
 
 -- Some lines are this population. If the reader's bytes are known, they are its lines, and none
 -- remains.

@@ -12,7 +12,8 @@ use Rattle.zs_population.specs.Population.{Refusal, block_jobs, job_at, jobs_at}
 use Rattle.zs_lines.specs.declared.buffer.LineFault.{LineFault}
 use Rattle.zs_lines.specs.declared.buffer.LineFault.TheVariants as unread
 use Rattle.zs_population.specs.declared.fault.PopulationFault.{PopulationFault}
-use Rattle.zs_population.specs.declared.fault.PopulationFault.TheVariants.{Read, Line, Engine, Write}
+use Rattle.zs_population.specs.declared.fault.PopulationFault.TheVariants.{Read, Line, Engine}
+use Rattle.zs_population.specs.declared.fault.PopulationFault.TheVariants.{Write}
 
 -- the names of jobs
 abbrev pub names_of : List JobRecord → List (List ℕ)

@@ -2,7 +2,8 @@
 use Rattle.std.specs.Prelude.{ℕ, Result, Ok, Err}
 use Rattle.zs_run.specs.Status.{plan_status_of}
 use Rattle.zs_population.specs.declared.fault.PopulationFault.{PopulationFault}
-use Rattle.zs_population.specs.declared.fault.PopulationFault.TheVariants.{Read, Line, Engine, Write}
+use Rattle.zs_population.specs.declared.fault.PopulationFault.TheVariants.{Read, Line, Engine}
+use Rattle.zs_population.specs.declared.fault.PopulationFault.TheVariants.{Write}
 
 -- 2 for a rejected line, 3 if reading or writing failed, 4 without memory or a thread
 abbrev pub status_of : PopulationFault → ℕ
