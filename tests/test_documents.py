@@ -50,7 +50,7 @@ def test_files_that_a_page_names_exist(page):
 
 
 def words_in(place):
-    paths = [place] if place.is_file() else place.rglob("*.*t")
+    paths = [place] if place.is_file() else [it for it in place.rglob("*.*t") if "out" not in it.parts]
     return {word for path in paths for word in re.findall(r"\w+", f"{path} {path.read_text()}")}
 
 

@@ -1,7 +1,7 @@
 //! The states in which a schedule may be: intervals in place of a state's numbers.
 
 ghost use Rattle.std.specs.Prelude.{◌≡◌, true, IfOk};
-ghost use Rattle.zs_term.specs.Schedule.{schedule_of, leaf, over, reset_when};
+ghost use Rattle.zs_term.specs.Schedule.{schedule_of, leaf, over, collect_all, reset_when};
 ghost use Rattle.zs_step.specs.Memory.{is_leaf};
 ghost use Rattle.zs_bounds.specs.AnswerRange.{any_input};
 ghost use Rattle.zs_bounds.specs.StateRange.{first_state, with_first, more_items};
@@ -99,34 +99,17 @@ pub(crate) fn node_of(alloc: Global, term: &Term) -> Result<Made, AllocError>
         Term::AndThen(a, b) => in_turn(alloc, part(alloc, a)?, part(alloc, b)?),
         Term::WhileInput(s, test) => {
             let (part, x) = part(alloc, s)?;
-            let test = *test;
-            Ok((
-                Node::WhileInput { part, test },
-                tested(test, any_input(), x),
-            ))
+            let (test, answer) = (*test, tested(*test, any_input(), x));
+            Ok((Node::WhileInput { part, test }, answer))
         }
         Term::WhileOutput(s, pick, test) => {
             let (part, x) = part(alloc, s)?;
             let (pick, test) = (*pick, *test);
             let span = picked_span(pick, &x.0);
-            Ok((
-                Node::WhileOutput { part, pick, test },
-                tested(test, span, x),
-            ))
+            let answer = tested(test, span, x);
+            Ok((Node::WhileOutput { part, pick, test }, answer))
         }
-        Term::CollectAll(s) => {
-            let (part, (_out, begins)) = part(alloc, s)?;
-            let none = Span::one(0);
-            let items = more_items(begins, none);
-            Ok((
-                Node::CollectAll {
-                    part,
-                    begins,
-                    items,
-                },
-                (OutRange::Lists(none), begins),
-            ))
-        }
+        Term::CollectAll(s) => Ok(collecting(part(alloc, s)?)),
         Term::Map(s, func) => {
             let (part, (out, decision)) = part(alloc, s)?;
             let func = *func;
@@ -140,12 +123,9 @@ pub(crate) fn node_of(alloc: Global, term: &Term) -> Result<Made, AllocError>
             resettable(alloc, part(alloc, s)?, rule)
         }
         _ => {
-            let leaf = leaf_of(term);
-            let (steps, time) = (Span::one(1), Span::one(0));
-            Ok((
-                Node::Leaf { leaf, steps, time },
-                leaf_range(leaf, steps, time),
-            ))
+            let (leaf, steps, time) = (leaf_of(term), Span::one(1), Span::one(0));
+            let answer = leaf_range(leaf, steps, time);
+            Ok((Node::Leaf { leaf, steps, time }, answer))
         }
     }
 }
@@ -188,6 +168,22 @@ fn in_turn(alloc: Global, first: MadePart, second: MadePart) -> Result<Made, All
         },
         answer_hull(left, right),
     ))
+}
+
+// A part whose outputs are collected.
+fn collecting(made: MadePart) -> Made
+    requires part { IsMadeNode made.0.value made.1 }
+    ensures made { IsMade (over (node_schedule made.0.value) collect_all) result.0 result.1 }
+{
+    let (part, (_out, begins)) = made;
+    let none = Span::one(0);
+    let items = more_items(begins, none);
+    let node = Node::CollectAll {
+        part,
+        begins,
+        items,
+    };
+    (node, (OutRange::Lists(none), begins))
 }
 
 // A part that may be reset.
