@@ -100,11 +100,11 @@ def test_numbers_of_steps_that_bounds_take(zsched):
         with pytest.raises(error):
             zsched.bounds("recurs(1)", steps)
     # This number of steps is never made: the schedule is done at its second one.
-    assert zsched.bounds("recurs(1)", LARGEST) == (2, 2, 2, 0, 0)
+    assert zsched.bounds("recurs(1)", LARGEST) == (2, 2, 2, 0, 0, None)
     stepped = zsched.Schedule("forever.collectAll")
     stepped.after(1)
     for schedule in [stepped.text, stepped]:
-        assert zsched.bounds(schedule, 3) == (3, 4, None, 0, None)
+        assert zsched.bounds(schedule, 3) == (3, 4, None, 0, None, None)
 
 
 def test_a_policy_is_within_its_bounds_and_not_within_less(zsched):
@@ -354,11 +354,11 @@ def test_the_service_of_the_document_waits_for_its_server():
     assert len(moments) == 1
 
 
-def test_the_check_of_the_document_ends_a_service_whose_policy_may_go_on():
+def test_the_check_of_the_document_ends_a_service_whose_policy_may_go_on(zsched):
     service, _, check = python_of_document()[:3]
-    assert len(check.splitlines()) == 5
-    exec(check, {"POLICY": re.search(r'^POLICY = "(.*)"$', service, re.M)[1]})
-    # Too many attempts, too long, and neither bounded.
-    for other in ["(spaced(1) && recurs(9))", "(spaced(5000) && recurs(5))", "spaced(1)"]:
-        with pytest.raises(SystemExit, match=f"^{re.escape(other)} may go on for too long: Bounds"):
-            exec(check, {"POLICY": other})
+    assert len(check.splitlines()) == 1
+    exec(check, {"POLICY": re.search(r'^POLICY = "(.*)"$', service, re.M)[1], "bounds": zsched.bounds})
+    # Too many attempts, too long, and without a bound.
+    for other in ["(spaced(5000) && recurs(9))", "(spaced(50000) && recurs(2))", "spaced(1)"]:
+        with pytest.raises(AssertionError):
+            exec(check, {"POLICY": other, "bounds": zsched.bounds})

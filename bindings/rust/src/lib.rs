@@ -140,6 +140,8 @@ pub enum Fault {
     NoProgram,
     /// The words of a state are those of another schedule.
     OtherState,
+    /// No attempt takes these durations: the least is 0, or above the most.
+    NoDuration,
     /// An allocation failed.
     Memory,
     /// The text spells no schedule, found at the byte `at`.
@@ -165,6 +167,7 @@ impl Fault {
             6 => Fault::KeepsList,
             8 => Fault::NoProgram,
             9 => Fault::OtherState,
+            10 => Fault::NoDuration,
             11 => Fault::NoTerm { at },
             12 => Fault::TooBig,
             13 => Fault::BadNumber { at },
@@ -185,6 +188,7 @@ impl Fault {
             Fault::KeepsList => (6, 0),
             Fault::NoProgram => (8, 0),
             Fault::OtherState => (9, 0),
+            Fault::NoDuration => (10, 0),
             Fault::NoTerm { at } => (11, at),
             Fault::TooBig => (12, 0),
             Fault::BadNumber { at } => (13, at),
