@@ -1,13 +1,17 @@
 -- That a first step which is joined twice is joined once.
 use Rattle.std.proofs.Common.{◌≡◌, ℕ, Bool, true, false, ◌||◌, min, max, refl, sym, ap, ◌∙◌, arith}
-use Rattle.zs_term.specs.Schedule.{Schedule, leaf, two, over, both, either, and_then, while_input, while_output, collect_all, mapped, reset_when}
+use Rattle.zs_term.specs.Schedule.{Schedule, Leaf, leaf, two, over, both, either, and_then, while_input, while_output, collect_all, mapped, reset_when}
 use Rattle.zs_bounds.specs.declared.span.Span.{Span}
+use Rattle.zs_term.specs.declared.term.Test.{Test}
+use Rattle.zs_term.specs.declared.term.Pick.{Pick}
+use Rattle.zs_term.specs.declared.term.Func.{Func}
+use Rattle.zs_bounds.specs.declared.turns.Turn.{Turn}
 use Rattle.zs_bounds.specs.declared.turns.Fresh.{Fresh}
 use Rattle.zs_bounds.specs.declared.turns.Fresh.TheVariants.{Nothing, Beside, Alone}
 use Rattle.zs_bounds.specs.Span.{span, hull}
 use Rattle.zs_bounds.specs.DecisionRange.{may_go_on}
 use Rattle.zs_bounds.specs.StateRange.{StateRange, counts, parts, turns, items, steps_in, time_in, first_in, second_in, is_first_on, is_second_on, items_in, part_in, first_range, first_state, with_first, begun, more_items}
-use Rattle.zs_bounds.specs.Node.{fresh_state, fresh_added}
+use Rattle.zs_bounds.specs.Node.{fresh_state, fresh_added, fresh_span, turn_refreshed}
 
 span-is : (a b c d : ℕ) → a ≡ c → b ≡ d → span a b ≡ span c d
 span-is a b c d low high = ap (λ x. span x b) low ∙ ap (λ x. span c x) high
@@ -114,3 +118,63 @@ fresh_begun true false f s c = refl
 fresh_begun true true Nothing s c = refl
 fresh_begun true true Beside s c = sym (first-twice s c)
 fresh_begun true true Alone s c = sym (first-has_first s)
+
+-- ---- what the states of a node lack, by those of its parts
+
+pub fresh_counts : (f : Fresh) (l : Leaf) (n t : Span) →
+    counts (fresh_span f n (span 1 1)) (fresh_span f t (span 0 0)) ≡ fresh_state f (leaf l) (counts n t)
+fresh_counts Nothing l n t = refl
+fresh_counts Beside l n t = refl
+fresh_counts Alone l n t = refl
+
+pub fresh_both : (f : Fresh) (a b : Schedule) (x y : StateRange) → parts (fresh_state f a x) (fresh_state f b y) ≡ fresh_state f (two both a b) (parts x y)
+fresh_both Nothing a b x y = refl
+fresh_both Beside a b x y = refl
+fresh_both Alone a b x y = refl
+
+pub fresh_either : (f : Fresh) (a b : Schedule) (x y : StateRange) → parts (fresh_state f a x) (fresh_state f b y) ≡ fresh_state f (two either a b) (parts x y)
+fresh_either Nothing a b x y = refl
+fresh_either Beside a b x y = refl
+fresh_either Alone a b x y = refl
+
+pub fresh_items : (f : Fresh) (s : Schedule) (n : Span) (x : StateRange) →
+    items (fresh_span f n (more_items (first_range s).decision (span 0 0))) (fresh_state f s x) ≡ fresh_state f (over s collect_all) (items n x)
+fresh_items Nothing s n x = refl
+fresh_items Beside s n x = refl
+fresh_items Alone s n x = refl
+
+pub fresh_input : (f : Fresh) (s : Schedule) (x : StateRange) (t : Test) → fresh_state f s x ≡ fresh_state f (over s (while_input t)) x
+fresh_input Nothing s x t = refl
+fresh_input Beside s x t = refl
+fresh_input Alone s x t = refl
+
+pub fresh_output : (f : Fresh) (s : Schedule) (x : StateRange) (k : Pick) (t : Test) → fresh_state f s x ≡ fresh_state f (over s (while_output k t)) x
+fresh_output Nothing s x k t = refl
+fresh_output Beside s x k t = refl
+fresh_output Alone s x k t = refl
+
+pub fresh_mapped : (f : Fresh) (s : Schedule) (x : StateRange) (g : Func) → fresh_state f s x ≡ fresh_state f (over s (mapped g)) x
+fresh_mapped Nothing s x g = refl
+fresh_mapped Beside s x g = refl
+fresh_mapped Alone s x g = refl
+
+pub fresh_reset : (f : Fresh) (s : Schedule) (x : StateRange) (k : Pick) (t : Test) → fresh_state f s x ≡ fresh_state f (over s (reset_when k t)) x
+fresh_reset Nothing s x k t = refl
+fresh_reset Beside s x k t = refl
+fresh_reset Alone s x k t = refl
+
+-- both parts in turn, whose states may lack something already
+pub fresh_turns : (f : Fresh) (a b : Schedule) (t u : Turn) (x y : StateRange) →
+    turns (turn_refreshed f (may_go_on (first_range a).decision) t).is_on (turn_refreshed f (first_range a).decision.stops u).is_on
+    (fresh_state (turn_refreshed f (may_go_on (first_range a).decision) t).fresh a x) (fresh_state (turn_refreshed f (first_range a).decision.stops u).fresh b y)
+    ≡ fresh_state f (two and_then a b) (turns t.is_on u.is_on (fresh_state t.fresh a x) (fresh_state u.fresh b y))
+fresh_turns Nothing a b t u x y = refl
+fresh_turns Beside a b t u x y =
+    let g = may_go_on (first_range a).decision in
+    let h = (first_range a).decision.stops in
+    turns-are (t.is_on || g) (u.is_on || h) (t.is_on || g) (u.is_on || h)
+    (fresh_state (fresh_added g t.is_on t.fresh) a x) (fresh_state (fresh_added h u.is_on u.fresh) b y)
+    (begun g t.is_on (with_first a (fresh_state t.fresh a x)) (first_state a) (fresh_state t.fresh a x))
+    (begun h u.is_on (with_first b (fresh_state u.fresh b y)) (first_state b) (fresh_state u.fresh b y))
+    refl refl (fresh_begun g t.is_on t.fresh a x) (fresh_begun h u.is_on u.fresh b y)
+fresh_turns Alone a b t u x y = refl

@@ -15,6 +15,7 @@ use Rattle.zs_bounds.specs.declared.node.Node.TheVariants.{Leaf, Both', Either',
 use Rattle.zs_bounds.specs.declared.node.Node.TheVariants.{WhileInput', WhileOutput', CollectAll'}
 use Rattle.zs_bounds.specs.declared.node.Node.TheVariants.{Map', ResetWhen'}
 use Rattle.zs_bounds.specs.Leaf.{bare_leaf}
+use Rattle.zs_bounds.specs.Span.{hull}
 use Rattle.zs_bounds.specs.AnswerRange.{AnswerRange, range}
 use Rattle.zs_bounds.specs.OutRange.{output_range_of}
 use Rattle.zs_bounds.specs.StateRange.{StateRange, counts, parts, turns, items, first_range}
@@ -55,6 +56,18 @@ turn_of on d f = record { is_on = on; begins = d; fresh = f }
 -- a turn whose part may also be at its first step, if it may begin
 abbrev pub turn_added : Bool → Turn → Turn
 turn_added begins t = turn_of (t.is_on || begins) t.begins (fresh_added begins t.is_on t.fresh)
+
+-- the same for both parts in turn, of which one has to begin
+abbrev pub turn_refreshed : Fresh → Bool → Turn → Turn
+turn_refreshed Nothing begins t = t
+turn_refreshed Beside begins t = turn_added begins t
+turn_refreshed Alone begins t = turn_of begins t.begins Alone
+
+-- a span of numbers, with the first one as the states lack it
+abbrev pub fresh_span : Fresh → Span → Span → Span
+fresh_span Nothing s first = s
+fresh_span Beside s first = hull s first
+fresh_span Alone s first = first
 
 -- the range of states that a node has
 abbrev pub node_state : Node → StateRange

@@ -5,18 +5,16 @@ use Rattle.zs_term.specs.Schedule.{Modifier, over, collect_all}
 use Rattle.zs_bounds.specs.declared.decisions.Decisions.{Decisions}
 use Rattle.zs_bounds.specs.declared.durations.Durations.{Durations}
 use Rattle.zs_bounds.specs.declared.told.Bounds.{Bounds}
-use Rattle.zs_bounds.specs.declared.leaves.Leaf.{Leaf}
 use Rattle.zs_bounds.specs.declared.node.Node.{Node}
 use Rattle.zs_bounds.specs.declared.ranges.OutRange.{OutRange}
 use Rattle.zs_bounds.specs.declared.span.Span.{Span}
 use Rattle.zs_bounds.specs.declared.reads.Reads.{Reads}
 use Rattle.zs_bounds.specs.declared.turns.Turn.{Turn}
 use Rattle.zs_bounds.specs.declared.turns.Turns.{Turns}
-use Rattle.zs_bounds.specs.AnswerRange.{AnswerRange, range, answers_if, leaf_range, left_range}
+use Rattle.zs_bounds.specs.AnswerRange.{AnswerRange, range, answers_if, left_range}
 use Rattle.zs_bounds.specs.AnswerRange.{right_range}
 use Rattle.zs_bounds.specs.BoundsOf.{bounds_from, no_bounds}
 use Rattle.zs_bounds.specs.DecisionRange.{may_go_on}
-use Rattle.zs_bounds.specs.Leaf.{bare_leaf}
 use Rattle.zs_bounds.specs.OutputRange.{OutputRange, pairs, sides, merge_range}
 use Rattle.zs_bounds.specs.StateRange.{StateRange, items, next_range, next_state}
 use Rattle.zs_bounds.specs.Node.{node_schedule, node_state, node_range, node_next, part_state}
@@ -37,10 +35,6 @@ bounds_at n d steps first =
 pub record Gives (v : Reads) (r : AnswerRange) (out : OutRange) (d : Decisions) : Type 0 where
   pub output : Shows v out r.output
   pub decision : d ≡ r.decision
-
--- of a leaf
-abbrev pub leaf_results : Leaf → Span → Span → AnswerRange
-leaf_results l n t = leaf_range (bare_leaf l) n t
 
 -- of a part under an operator
 abbrev pub over_range : Modifier → Node → Span → AnswerRange

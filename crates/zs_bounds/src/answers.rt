@@ -41,7 +41,7 @@ pub(crate) fn left_range(alloc: Global, answer: Answer) -> Result<Answer, AllocE
     }
     Ok((
         make_sides(alloc, out, OutRange::Nothing)?,
-        decision.going_on(),
+        Decisions::always(decision.waits),
     ))
 }
 
@@ -54,7 +54,7 @@ pub(crate) fn right_range(alloc: Global, answer: Answer) -> Result<Answer, Alloc
 }
 
 // The results under a test of a number of a span, if there is one.
-pub(crate) fn tested(test: Test, span: Option<Span>, answer: Answer) -> Answer
+pub(crate) fn test_range(test: Test, span: Option<Span>, answer: Answer) -> Answer
     ensures value { answer_range result ≡ test_range test span (answer_range answer) }
 {
     let (out, decision) = answer;

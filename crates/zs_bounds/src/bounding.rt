@@ -56,7 +56,7 @@ fn bounds_from(
     for _ in 0..steps {
         told = told.with_step(durations, decision);
         let Some(wait) = decision.waits else {
-            return Ok(told.ended());
+            return Ok(told.with_end());
         };
         let later = durations.time_between(wait);
         passed = passed.saturating_add(later.low);
@@ -66,5 +66,5 @@ fn bounds_from(
         let next = Next { alloc, later };
         decision = step(next, &Reads::Nothing, node, &mut out)?;
     }
-    Ok(told.unended())
+    Ok(told.without_end())
 }

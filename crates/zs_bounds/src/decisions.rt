@@ -3,7 +3,7 @@
 ghost use Rattle.std.specs.Prelude.{◌≡◌, false};
 ghost use Rattle.zs_bounds.specs.AnswerRange.{range, reset_range};
 ghost use Rattle.zs_bounds.specs.OutputRange.{nothing, may_fail, may_pass};
-ghost use Rattle.zs_bounds.specs.DecisionRange.{may_go_on, wait_hull, later_waits, earlier_waits, waits_if, decisions, decision_hull, both_decide, either_decides, test_decides, going_on, no_decision};
+ghost use Rattle.zs_bounds.specs.DecisionRange.{may_go_on, wait_hull, later_waits, earlier_waits, waits_if, decisions, decision_hull, both_decide, either_decides, test_decides, no_decision};
 
 use crate::ranges::{may_fail, may_pass};
 use crate::span::Span;
@@ -90,13 +90,6 @@ impl Decisions {
             return self;
         }
         if fails { self.hull(first) } else { first }
-    }
-
-    // Those to go on alone.
-    pub(crate) fn going_on(self) -> Decisions
-        ensures value { result ≡ going_on self }
-    {
-        Decisions::new(false, self.waits)
     }
 }
 

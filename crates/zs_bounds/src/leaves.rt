@@ -5,7 +5,7 @@ ghost use Rattle.std.specs.Prelude.{◌≡◌, ◌*◌, ◌^◌, None, nat_le, n
 ghost use Rattle.zs_term.specs.Saturating.{saturated};
 ghost use Rattle.zs_step.specs.Answer.{fibonacci_number};
 ghost use Rattle.zs_bounds.specs.DecisionRange.{decisions};
-ghost use Rattle.zs_bounds.specs.AnswerRange.{leaf_range, span_of, waiting, period_waits, at_once};
+ghost use Rattle.zs_bounds.specs.AnswerRange.{leaf_range, waiting, period_waits, at_once};
 ghost use Rattle.zs_bounds.specs.OutRange.{answer_range};
 ghost use Rattle.zs_bounds.specs.Leaf.{bare_leaf};
 
@@ -48,8 +48,14 @@ pub(crate) fn leaf_range(leaf: Leaf, steps: Span, time: Span) -> Answer
         Leaf::Spaced(delay) => (count, Decisions::always(Span::one(delay).delays())),
         Leaf::Fixed(period) => (count, Decisions::always(period_waits(period, 0, steps))),
         Leaf::Windowed(period) => (count, Decisions::always(period_waits(period, 1, steps))),
-        Leaf::Exponential(base, factor) => waiting(powers(base, factor, earlier)),
-        Leaf::Fibonacci(one) => waiting(fibonaccis(one, steps)),
+        Leaf::Exponential(base, factor) => waiting(Span::new(
+            power(base, factor, earlier.low),
+            power(base, factor, earlier.high),
+        )),
+        Leaf::Fibonacci(one) => waiting(Span::new(
+            fibonacci(one, steps.low),
+            fibonacci(one, steps.high),
+        )),
         Leaf::Linear(unit) => waiting(Span::new(
             unit.saturating_mul(steps.low),
             unit.saturating_mul(steps.high),
@@ -94,17 +100,6 @@ fn period_waits(period: u64, some: u64, steps: Span) -> Option<Span>
     Some(Span::new(low, period))
 }
 
-// A number times powers of a factor. Of one exponent there is one power.
-fn powers(base: u64, factor: u64, exponents: Span) -> Span
-    ensures value { result ≡ span_of (λ k. saturated (base * factor ^ k)) exponents }
-{
-    let low = power(base, factor, exponents.low);
-    if exponents.low == exponents.high {
-        return Span::one(low);
-    }
-    Span::new(low, power(base, factor, exponents.high))
-}
-
 // A number times a power of a factor. Once it is 0 or cut, it stays unchanged.
 #[tactic(auto, using(crate::proofs::Powers::power_none, crate::proofs::Powers::power_ones, crate::proofs::Powers::power_turn, crate::proofs::Powers::power_zero, crate::proofs::Powers::power_cut, crate::proofs::Powers::power_large))]
 fn power(base: u64, factor: u64, exponent: u64) -> u64
@@ -125,17 +120,6 @@ fn power(base: u64, factor: u64, exponent: u64) -> u64
         product = product.saturating_mul(factor);
     }
     product
-}
-
-// A number times numbers of Fibonacci. Of one index there is one number.
-fn fibonaccis(one: u64, indices: Span) -> Span
-    ensures value { result ≡ span_of (λ k. saturated (one * fibonacci_number k)) indices }
-{
-    let low = fibonacci(one, indices.low);
-    if indices.low == indices.high {
-        return Span::one(low);
-    }
-    Span::new(low, fibonacci(one, indices.high))
 }
 
 // A number times a number of Fibonacci.

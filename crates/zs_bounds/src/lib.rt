@@ -33,5 +33,4 @@ pub use bounding::bounds;
 pub use durations::Durations;
 pub use endless::never_gives_up;
 pub use laws::bounds_hold;
-pub use span::MAX_TICK;
 pub use told::Bounds;

@@ -1,17 +1,17 @@
 //! The states in which a schedule may be: intervals in place of a state's numbers.
 
-ghost use Rattle.std.specs.Prelude.{◌≡◌, true, IfOk};
+ghost use Rattle.std.specs.Prelude.{◌≡◌, IfOk};
 ghost use Rattle.zs_term.specs.Schedule.{schedule_of, leaf, over, collect_all, reset_when};
-ghost use Rattle.zs_step.specs.Memory.{is_leaf};
 ghost use Rattle.zs_bounds.specs.AnswerRange.{any_input};
-ghost use Rattle.zs_bounds.specs.StateRange.{first_state, with_first, more_items};
+ghost use Rattle.zs_bounds.specs.StateRange.{first_state, more_items};
 ghost use Rattle.zs_bounds.specs.Leaf.{bare_leaf};
 ghost use Rattle.zs_bounds.specs.Node.{node_begun, node_schedule, node_state, fresh_state, in_turn, IsMade, IsMadeNode, KnowsFirsts, SameNode};
 
-use crate::answers::{Answer, answer_hull, left_range, no_answer, right_range, tested};
+use crate::answers::{Answer, answer_hull, left_range, no_answer, right_range, test_range};
 use crate::decisions::Decisions;
 use crate::leaves::{Leaf, leaf_range};
-use crate::ranges::{OutRange, applied, copied, make_pairs, picked_span};
+use crate::ranges::{OutRange, func_range, make_pairs, picked_span};
+use crate::reads::{Reads, copy_read};
 use crate::span::Span;
 use crate::turns::{Fresh, ResetRule, Turn, Turns};
 use std::alloc::{AllocError, Global};
@@ -21,50 +21,17 @@ use zs_term::{Func, Pick, Term, Test};
 #[derive(Drop)]
 pub(crate) enum Node {
     // The number of steps, and the time since the first one.
-    Leaf {
-        leaf: Leaf,
-        steps: Span,
-        time: Span,
-    },
-    Both {
-        first: Box<Node>,
-        second: Box<Node>,
-    },
-    Either {
-        first: Box<Node>,
-        second: Box<Node>,
-    },
-    AndThen {
-        turns: Turns,
-        first: Box<Node>,
-        second: Box<Node>,
-    },
-    WhileInput {
-        part: Box<Node>,
-        test: Test,
-    },
-    WhileOutput {
-        part: Box<Node>,
-        pick: Pick,
-        test: Test,
-    },
-    // The number of items so far, and what the part's first step may decide.
-    CollectAll {
-        part: Box<Node>,
-        begins: Decisions,
-        items: Span,
-    },
-    Map {
-        part: Box<Node>,
-        func: Func,
-    },
+    Leaf(Leaf, Span, Span),
+    Both(Box<Node>, Box<Node>),
+    Either(Box<Node>, Box<Node>),
+    AndThen(Turns, Box<Node>, Box<Node>),
+    WhileInput(Box<Node>, Test),
+    WhileOutput(Box<Node>, Pick, Test),
+    // What the part's first step may decide, and the number of items so far.
+    CollectAll(Box<Node>, Decisions, Span),
+    Map(Box<Node>, Func),
     // The part's first step: what it may decide, and return as its output.
-    ResetWhen {
-        part: Box<Node>,
-        rule: ResetRule,
-        begins: Decisions,
-        start: OutRange,
-    },
+    ResetWhen(Box<Node>, ResetRule, Decisions, OutRange),
 }
 
 // All inputs.
@@ -86,48 +53,55 @@ pub(crate) fn node_of(alloc: Global, term: &Term) -> Result<Made, AllocError>
     ensures made { IfOk result (λ r. IsMade (schedule_of term.now) r.0 r.1) }
 {
     match term {
+        Term::Forever => Ok(leaf_node(Leaf::Forever)),
+        Term::Recurs(k) => Ok(leaf_node(Leaf::Recurs(*k))),
+        Term::Spaced(delay) => Ok(leaf_node(Leaf::Spaced(*delay))),
+        Term::Fixed(period) => Ok(leaf_node(Leaf::Fixed(*period))),
+        Term::Exponential(base, factor) => Ok(leaf_node(Leaf::Exponential(*base, *factor))),
+        Term::Fibonacci(one) => Ok(leaf_node(Leaf::Fibonacci(*one))),
+        Term::Identity => Ok(leaf_node(Leaf::Identity)),
+        Term::Elapsed => Ok(leaf_node(Leaf::Elapsed)),
+        Term::Linear(unit) => Ok(leaf_node(Leaf::Linear(*unit))),
+        Term::Windowed(period) => Ok(leaf_node(Leaf::Windowed(*period))),
         Term::Both(a, b) => {
             let ((first, x), (second, y)) = (part(alloc, a)?, part(alloc, b)?);
             let answer = (make_pairs(alloc, x.0, y.0)?, x.1.both(y.1));
-            Ok((Node::Both { first, second }, answer))
+            Ok((Node::Both(first, second), answer))
         }
         Term::Either(a, b) => {
             let ((first, x), (second, y)) = (part(alloc, a)?, part(alloc, b)?);
             let answer = (make_pairs(alloc, x.0, y.0)?, x.1.either(y.1));
-            Ok((Node::Either { first, second }, answer))
+            Ok((Node::Either(first, second), answer))
         }
         Term::AndThen(a, b) => in_turn(alloc, part(alloc, a)?, part(alloc, b)?),
         Term::WhileInput(s, test) => {
             let (part, x) = part(alloc, s)?;
-            let (test, answer) = (*test, tested(*test, any_input(), x));
-            Ok((Node::WhileInput { part, test }, answer))
+            let answer = test_range(*test, any_input(), x);
+            Ok((Node::WhileInput(part, *test), answer))
         }
         Term::WhileOutput(s, pick, test) => {
             let (part, x) = part(alloc, s)?;
-            let (pick, test) = (*pick, *test);
-            let span = picked_span(pick, &x.0);
-            let answer = tested(test, span, x);
-            Ok((Node::WhileOutput { part, pick, test }, answer))
+            let span = picked_span(*pick, &x.0);
+            Ok((
+                Node::WhileOutput(part, *pick, *test),
+                test_range(*test, span, x),
+            ))
         }
         Term::CollectAll(s) => Ok(collecting(part(alloc, s)?)),
         Term::Map(s, func) => {
             let (part, (out, decision)) = part(alloc, s)?;
-            let func = *func;
-            Ok((Node::Map { part, func }, (applied(func, out), decision)))
+            Ok((Node::Map(part, *func), (func_range(*func, out), decision)))
         }
-        Term::ResetWhen(s, pick, test) => {
-            let rule = ResetRule {
-                pick: *pick,
-                test: *test,
-            };
-            resettable(alloc, part(alloc, s)?, rule)
-        }
-        _ => {
-            let (leaf, steps, time) = (leaf_of(term), Span::one(1), Span::one(0));
-            let answer = leaf_range(leaf, steps, time);
-            Ok((Node::Leaf { leaf, steps, time }, answer))
-        }
+        Term::ResetWhen(s, pick, test) => resettable(alloc, part(alloc, s)?, *pick, *test),
     }
+}
+
+// The node of a leaf.
+fn leaf_node(rule: Leaf) -> Made
+    ensures made { IsMade (leaf (bare_leaf rule)) result.0 result.1 }
+{
+    let (steps, time) = (Span::one(1), Span::one(0));
+    (Node::Leaf(rule, steps, time), leaf_range(rule, steps, time))
 }
 
 // The node of a part.
@@ -150,7 +124,7 @@ fn in_turn(alloc: Global, first: MadePart, second: MadePart) -> Result<Made, All
     let decision = x.1;
     let left = left_range(alloc, x)?;
     let right = if decision.stops {
-        right_range(alloc, (copied(alloc, &start)?, begins))?
+        right_range(alloc, (copy_read(alloc, &Reads::Whole, &start)?, begins))?
     } else {
         no_answer()
     };
@@ -161,11 +135,7 @@ fn in_turn(alloc: Global, first: MadePart, second: MadePart) -> Result<Made, All
         made: OutRange::Nothing,
     };
     Ok((
-        Node::AndThen {
-            turns,
-            first,
-            second,
-        },
+        Node::AndThen(turns, first, second),
         answer_hull(left, right),
     ))
 }
@@ -178,31 +148,22 @@ fn collecting(made: MadePart) -> Made
     let (part, (_out, begins)) = made;
     let none = Span::one(0);
     let items = more_items(begins, none);
-    let node = Node::CollectAll {
-        part,
-        begins,
-        items,
-    };
-    (node, (OutRange::Lists(none), begins))
+    (
+        Node::CollectAll(part, begins, items),
+        (OutRange::Lists(none), begins),
+    )
 }
 
 // A part that may be reset.
-fn resettable(alloc: Global, made: MadePart, rule: ResetRule) -> Result<Made, AllocError>
+fn resettable(alloc: Global, made: MadePart, pick: Pick, test: Test) -> Result<Made, AllocError>
     requires part { IsMadeNode made.0.value made.1 }
     ensures made { IfOk result (λ r.
-        IsMade (over (node_schedule made.0.value) (reset_when rule.pick rule.test)) r.0 r.1) }
+        IsMade (over (node_schedule made.0.value) (reset_when pick test)) r.0 r.1) }
 {
     let (part, (start, begins)) = made;
-    let out = copied(alloc, &start)?;
-    Ok((
-        Node::ResetWhen {
-            part,
-            rule,
-            begins,
-            start,
-        },
-        (out, begins),
-    ))
+    let out = copy_read(alloc, &Reads::Whole, &start)?;
+    let rule = ResetRule { pick, test };
+    Ok((Node::ResetWhen(part, rule, begins, start), (out, begins)))
 }
 
 // One more item at a step that goes on.
@@ -222,129 +183,53 @@ pub(crate) fn more_items(decision: Decisions, items: Span) -> Span
     Span::new(low, high)
 }
 
-// Makes a state that after the first step.
-fn begin(node: &mut Node)
-    requires firsts { KnowsFirsts node.old }
-    ensures state { node_state node.new ≡ first_state (node_schedule node.old) }
-    ensures same { SameNode node.old node.new }
-{
-    match node {
-        Node::Leaf { steps, time, .. } => {
-            *steps = Span::one(1);
-            *time = Span::one(0);
-        }
-        Node::Both { first, second } => {
-            begin(first);
-            begin(second)
-        }
-        Node::Either { first, second } => {
-            begin(first);
-            begin(second)
-        }
-        Node::AndThen { turns, .. } => {
-            let decision = turns.first.begins;
-            turns.first = Turn::first(decision.may_go_on(), decision);
-            turns.second = Turn::first(decision.stops, turns.second.begins);
-        }
-        Node::CollectAll {
-            part,
-            begins,
-            items,
-        } => {
-            *items = more_items(*begins, Span::one(0));
-            begin(part)
-        }
-        Node::WhileInput { part, .. } => begin(part),
-        Node::WhileOutput { part, .. } => begin(part),
-        Node::Map { part, .. } => begin(part),
-        Node::ResetWhen { part, .. } => begin(part),
-    }
-}
-
-// Adds the state after the first step to those of a node.
-#[tactic(auto, using(crate::proofs::Fresh::fresh_begun))]
-fn widen(node: &mut Node)
-    requires firsts { KnowsFirsts node.old }
-    ensures state { node_state node.new
-        ≡ with_first (node_schedule node.old) (node_state node.old) }
-    ensures same { SameNode node.old node.new }
-{
-    match node {
-        Node::Leaf { steps, time, .. } => {
-            *steps = steps.hull(Span::one(1));
-            *time = time.hull(Span::one(0));
-        }
-        Node::Both { first, second } => {
-            widen(first);
-            widen(second)
-        }
-        Node::Either { first, second } => {
-            widen(first);
-            widen(second)
-        }
-        Node::AndThen { turns, .. } => {
-            let decision = turns.first.begins;
-            turns.first = turns.first.add_first(decision.may_go_on());
-            turns.second = turns.second.add_first(decision.stops);
-        }
-        Node::CollectAll {
-            part,
-            begins,
-            items,
-        } => {
-            *items = items.hull(more_items(*begins, Span::one(0)));
-            widen(part)
-        }
-        Node::WhileInput { part, .. } => widen(part),
-        Node::WhileOutput { part, .. } => widen(part),
-        Node::Map { part, .. } => widen(part),
-        Node::ResetWhen { part, .. } => widen(part),
-    }
-}
-
-// Adds the state after the first step to those of a part that may begin. It is the part's only
-// state if the part was not on.
-pub(crate) fn add_first(begins: bool, is_on: bool, node: &mut Node)
-    requires firsts { KnowsFirsts node.old }
-    ensures state { node_state node.new ≡ node_begun begins is_on node.old }
-    ensures same { SameNode node.old node.new }
-{
-    if !begins {
-        return;
-    }
-    if is_on { widen(node) } else { begin(node) }
-}
-
-// Adds to a part's states what they still lack.
+// Adds to a node's states what they still lack.
+#[tactic(auto, using(crate::proofs::Fresh::fresh_counts, crate::proofs::Fresh::fresh_both, crate::proofs::Fresh::fresh_either, crate::proofs::Fresh::fresh_turns, crate::proofs::Fresh::fresh_items, crate::proofs::Fresh::fresh_input, crate::proofs::Fresh::fresh_output, crate::proofs::Fresh::fresh_mapped, crate::proofs::Fresh::fresh_reset))]
 pub(crate) fn refresh(fresh: Fresh, node: &mut Node)
     requires firsts { KnowsFirsts node.old }
     ensures state { node_state node.new
         ≡ fresh_state fresh (node_schedule node.old) (node_state node.old) }
     ensures same { SameNode node.old node.new }
 {
-    match fresh {
-        Fresh::Nothing => {}
-        Fresh::Beside => widen(node),
-        Fresh::Alone => begin(node),
+    if let Fresh::Nothing = fresh {
+        return;
+    }
+    match node {
+        Node::Leaf(_, steps, time) => {
+            *steps = fresh.widen(*steps, Span::one(1));
+            *time = fresh.widen(*time, Span::one(0));
+        }
+        Node::Both(first, second) => {
+            refresh(fresh, first);
+            refresh(fresh, second)
+        }
+        Node::Either(first, second) => {
+            refresh(fresh, first);
+            refresh(fresh, second)
+        }
+        Node::AndThen(turns, _, _) => {
+            let decision = turns.first.begins;
+            turns.first = turns.first.refresh(fresh, decision.may_go_on());
+            turns.second = turns.second.refresh(fresh, decision.stops);
+        }
+        Node::CollectAll(part, begins, items) => {
+            *items = fresh.widen(*items, more_items(*begins, Span::one(0)));
+            refresh(fresh, part)
+        }
+        Node::WhileInput(part, _) => refresh(fresh, part),
+        Node::WhileOutput(part, _, _) => refresh(fresh, part),
+        Node::Map(part, _) => refresh(fresh, part),
+        Node::ResetWhen(part, _, _, _) => refresh(fresh, part),
     }
 }
 
-// The leaf of a term without parts.
-fn leaf_of(term: &Term) -> Leaf
-    requires leaf { is_leaf (schedule_of term.now) ≡ true }
-    ensures value { leaf (bare_leaf result) ≡ schedule_of term.now }
+// Adds the state after the first step to those of a part that may begin. It is the part's only
+// state if the part was not on.
+#[tactic(auto, using(crate::proofs::Fresh::fresh_begun))]
+pub(crate) fn add_first(begins: bool, is_on: bool, node: &mut Node)
+    requires firsts { KnowsFirsts node.old }
+    ensures state { node_state node.new ≡ node_begun begins is_on node.old }
+    ensures same { SameNode node.old node.new }
 {
-    match term {
-        Term::Forever => Leaf::Forever,
-        Term::Recurs(k) => Leaf::Recurs(*k),
-        Term::Spaced(delay) => Leaf::Spaced(*delay),
-        Term::Fixed(period) => Leaf::Fixed(*period),
-        Term::Exponential(base, factor) => Leaf::Exponential(*base, *factor),
-        Term::Fibonacci(one) => Leaf::Fibonacci(*one),
-        Term::Identity => Leaf::Identity,
-        Term::Elapsed => Leaf::Elapsed,
-        Term::Linear(unit) => Leaf::Linear(*unit),
-        Term::Windowed(period) => Leaf::Windowed(*period),
-        _ => unreachable!(),
-    }
+    refresh(Fresh::Nothing.add_first(begins, is_on), node)
 }

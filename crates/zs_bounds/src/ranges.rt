@@ -71,21 +71,6 @@ fn lists_hull(span: Span, second: OutRange) -> OutRange
     }
 }
 
-// A copy of a range.
-#[cycle(copying)]
-pub(crate) fn copied(alloc: Global, range: &OutRange) -> Result<OutRange, AllocError>
-    ensures value { IfOk result (λ r. output_range_of r ≡ output_range_of range.now) }
-{
-    match range {
-        OutRange::Nothing => Ok(OutRange::Nothing),
-        OutRange::Numbers(s) => Ok(OutRange::Numbers(*s)),
-        OutRange::Pairs(a, b) => make_pairs(alloc, copied(alloc, a)?, copied(alloc, b)?),
-        OutRange::Sides(a, b) => make_sides(alloc, copied(alloc, a)?, copied(alloc, b)?),
-        OutRange::Lists(s) => Ok(OutRange::Lists(*s)),
-        OutRange::Anything => Ok(OutRange::Anything),
-    }
-}
-
 // Widens a range, so that it is around another one too.
 #[cycle(joining)]
 #[tactic(auto, using(crate::proofs::Reading::hull_nothing))]
@@ -264,7 +249,7 @@ fn second_of(range: OutRange) -> OutRange
 }
 
 // The range of what is on either side.
-fn merged(range: OutRange) -> OutRange
+fn merge_range(range: OutRange) -> OutRange
     ensures value { output_range_of result ≡ merge_range (output_range_of range) }
 {
     match range {
@@ -282,14 +267,14 @@ fn merged(range: OutRange) -> OutRange
 }
 
 // The range of a function's results.
-pub(crate) fn applied(func: Func, range: OutRange) -> OutRange
+pub(crate) fn func_range(func: Func, range: OutRange) -> OutRange
     ensures value { output_range_of result ≡ applied_range func (output_range_of range) }
 {
     match func {
         Func::First => first_of(range),
         Func::Second => second_of(range),
         Func::Size => numbers_in(size_span(&range)),
-        Func::Merge => merged(range),
+        Func::Merge => merge_range(range),
         Func::Const(n) => OutRange::Numbers(Span::one(n)),
         Func::Add(n) => match number_span(&range) {
             None => OutRange::Anything,

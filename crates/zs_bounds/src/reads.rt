@@ -2,10 +2,9 @@
 
 ghost use Rattle.std.specs.Prelude.{◌≡◌, IfOk, OnOk};
 ghost use Rattle.zs_bounds.specs.OutRange.{output_range_of};
-ghost use Rattle.zs_bounds.specs.OutputRange.{output_hull, applied_range};
 ghost use Rattle.zs_bounds.specs.Reads.{unread, whole, want_of, Shows, ShowsHull, ShowsReset, ShowsSides, range_if, with_pick, first_want, second_want, side_want, map_want};
 
-use crate::ranges::{OutRange, applied, copied, join, make_pairs, make_sides};
+use crate::ranges::{OutRange, join, make_pairs, make_sides};
 use std::alloc::{AllocError, Global};
 use std::mem::replace;
 use zs_term::{Func, Pick};
@@ -64,25 +63,15 @@ impl<'a> Reads<'a> {
         }
     }
 
-    // What is read of the first parts of pairs.
-    pub(crate) fn of_first(&self) -> Reads<'a>
-        ensures value { want_of result ≡ first_want (want_of self.now) }
+    // What is read of the first and of the second parts of pairs.
+    pub(crate) fn of_parts(&self) -> (Reads<'a>, Reads<'a>)
+        ensures first { want_of result.0 ≡ first_want (want_of self.now) }
+        ensures second { want_of result.1 ≡ second_want (want_of self.now) }
     {
         match self {
-            Reads::Nothing => Reads::Nothing,
-            Reads::Parts(first, _) => **first,
-            Reads::Whole | Reads::Sides(_) => Reads::Whole,
-        }
-    }
-
-    // What is read of the second parts.
-    pub(crate) fn of_second(&self) -> Reads<'a>
-        ensures value { want_of result ≡ second_want (want_of self.now) }
-    {
-        match self {
-            Reads::Nothing => Reads::Nothing,
-            Reads::Parts(_, second) => **second,
-            Reads::Whole | Reads::Sides(_) => Reads::Whole,
+            Reads::Nothing => (Reads::Nothing, Reads::Nothing),
+            Reads::Parts(first, second) => (**first, **second),
+            Reads::Whole | Reads::Sides(_) => (Reads::Whole, Reads::Whole),
         }
     }
 
@@ -95,43 +84,6 @@ impl<'a> Reads<'a> {
             Reads::Sides(side) => **side,
             Reads::Whole | Reads::Parts(_, _) => Reads::Whole,
         }
-    }
-
-    // Puts a range in its place, if anything is read of it.
-    pub(crate) fn put(&self, range: OutRange, out: &mut OutRange)
-        ensures value { Shows self.now out.new (output_range_of range) }
-    {
-        match self {
-            Reads::Nothing => {}
-            Reads::Whole | Reads::Parts(_, _) | Reads::Sides(_) => *out = range,
-        }
-    }
-
-    // Makes a function's results of what it reads.
-    pub(crate) fn apply(&self, func: Func, range: &mut OutRange)
-        ensures value { Shows self.now range.new
-            (applied_range func (output_range_of range.old)) }
-    {
-        let made = applied(func, replace(range, OutRange::Nothing));
-        self.put(made, range)
-    }
-
-    // Joins another range, if a fact holds.
-    #[tactic(auto, using(crate::proofs::Reading::hull_nothing))]
-    pub(crate) fn join(
-        &self,
-        alloc: Global,
-        holds: bool,
-        range: &mut OutRange,
-        other: &OutRange,
-    ) -> Result<(), AllocError>
-        ensures value { OnOk result
-            (ShowsHull self.now range.old (range_if holds (output_range_of other.now)) range.new) }
-    {
-        if !holds {
-            return Ok(());
-        }
-        join_read(alloc, self, range, other)
     }
 
     // The output of a part that may be reset, in place of its output.
@@ -149,11 +101,10 @@ impl<'a> Reads<'a> {
         if !passes {
             return Ok(());
         }
-        if fails {
-            return join_read(alloc, self, out, first);
+        if !fails {
+            *out = OutRange::Nothing;
         }
-        *out = copy_read(alloc, self, first)?;
-        Ok(())
+        join_read(alloc, self, true, out, first)
     }
 
     // Makes what is read of a choice, if there is any, in place of its left side.
@@ -178,84 +129,48 @@ impl<'a> Reads<'a> {
 }
 
 // A copy of what is read of a range.
-fn copy_read(alloc: Global, reads: &Reads<'_>, range: &OutRange) -> Result<OutRange, AllocError>
+#[cycle(copying)]
+#[tactic(auto, using(crate::proofs::Reading::pairs_show, crate::proofs::Reading::sides_show))]
+pub(crate) fn copy_read(
+    alloc: Global,
+    reads: &Reads<'_>,
+    range: &OutRange,
+) -> Result<OutRange, AllocError>
     ensures value { IfOk result (λ r. Shows reads.now r (output_range_of range.now)) }
 {
-    match reads {
-        Reads::Nothing => Ok(OutRange::Nothing),
-        Reads::Whole => copied(alloc, range),
-        Reads::Parts(v, w) => match range {
-            OutRange::Pairs(a, b) => {
-                make_pairs(alloc, copy_read(alloc, v, a)?, copy_read(alloc, w, b)?)
-            }
-            OutRange::Nothing
-            | OutRange::Numbers(_)
-            | OutRange::Sides(_, _)
-            | OutRange::Lists(_)
-            | OutRange::Anything => copied(alloc, range),
-        },
-        Reads::Sides(w) => match range {
-            OutRange::Sides(a, b) => {
-                make_sides(alloc, copy_read(alloc, w, a)?, copy_read(alloc, w, b)?)
-            }
-            OutRange::Nothing
-            | OutRange::Numbers(_)
-            | OutRange::Pairs(_, _)
-            | OutRange::Lists(_)
-            | OutRange::Anything => copied(alloc, range),
-        },
+    if let Reads::Nothing = reads {
+        return Ok(OutRange::Nothing);
+    }
+    match range {
+        OutRange::Nothing => Ok(OutRange::Nothing),
+        OutRange::Numbers(s) => Ok(OutRange::Numbers(*s)),
+        OutRange::Pairs(a, b) => {
+            let (v, w) = reads.of_parts();
+            make_pairs(alloc, copy_read(alloc, &v, a)?, copy_read(alloc, &w, b)?)
+        }
+        OutRange::Sides(a, b) => {
+            let w = reads.of_side();
+            make_sides(alloc, copy_read(alloc, &w, a)?, copy_read(alloc, &w, b)?)
+        }
+        OutRange::Lists(s) => Ok(OutRange::Lists(*s)),
+        OutRange::Anything => Ok(OutRange::Anything),
     }
 }
 
-// Widens what is read of a range, so that it is around what is read of another one too.
+// Widens a range, if a fact holds, so that it is around what is read of another one too.
+#[tactic(auto, using(crate::proofs::Reading::hull_nothing, crate::proofs::Reading::hulls_show))]
 pub(crate) fn join_read(
     alloc: Global,
     reads: &Reads<'_>,
+    holds: bool,
     range: &mut OutRange,
     other: &OutRange,
 ) -> Result<(), AllocError>
     ensures value { OnOk result
-        (ShowsHull reads.now range.old (output_range_of other.now) range.new) }
+        (ShowsHull reads.now range.old (range_if holds (output_range_of other.now)) range.new) }
 {
-    match reads {
-        Reads::Nothing => Ok(()),
-        Reads::Whole => join_copy(alloc, range, other),
-        Reads::Parts(v, w) => match range {
-            OutRange::Nothing => {
-                *range = copy_read(alloc, reads, other)?;
-                Ok(())
-            }
-            OutRange::Pairs(a, b) => match other {
-                OutRange::Pairs(c, d) => {
-                    join_read(alloc, v, a, c)?;
-                    join_read(alloc, w, b, d)
-                }
-                _ => join_copy(alloc, range, other),
-            },
-            _ => join_copy(alloc, range, other),
-        },
-        Reads::Sides(w) => match range {
-            OutRange::Nothing => {
-                *range = copy_read(alloc, reads, other)?;
-                Ok(())
-            }
-            OutRange::Sides(a, b) => match other {
-                OutRange::Sides(c, d) => {
-                    join_read(alloc, w, a, c)?;
-                    join_read(alloc, w, b, d)
-                }
-                _ => join_copy(alloc, range, other),
-            },
-            _ => join_copy(alloc, range, other),
-        },
+    if holds {
+        join(range, copy_read(alloc, reads, other)?);
     }
-}
-
-// Widens a range by a copy of another one.
-fn join_copy(alloc: Global, range: &mut OutRange, other: &OutRange) -> Result<(), AllocError>
-    ensures value { OnOk result (output_range_of range.new
-        ≡ output_hull (output_range_of range.old) (output_range_of other.now)) }
-{
-    join(range, copied(alloc, other)?);
     Ok(())
 }

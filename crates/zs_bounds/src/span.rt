@@ -5,8 +5,8 @@ ghost use Rattle.zs_bounds.specs.Span.{span, hull};
 ghost use Rattle.zs_bounds.specs.AnswerRange.{earlier_steps, delays};
 ghost use Rattle.zs_bounds.specs.StateRange.{more_steps, more_time};
 
-/// The greatest moment of a clock, in milliseconds: about 31,700 years.
-pub const MAX_TICK: u64 = 999_999_999_999_999;
+// The greatest moment of a clock, in milliseconds: about 31,700 years.
+pub(crate) const MAX_TICK: u64 = 999_999_999_999_999;
 
 // The longest wait that is never cut at the greatest moment.
 pub(crate) const UNCUT_WAIT: u64 = u64::MAX - MAX_TICK;

@@ -1,21 +1,22 @@
 //! One step of all states in which a schedule may be.
 
 ghost use Rattle.std.specs.Prelude.{◌≡◌, IfOk, OnOk, if◌then◌else◌};
-ghost use Rattle.zs_term.specs.Schedule.{while_input, while_output, mapped, reset_when};
+ghost use Rattle.zs_term.specs.Schedule.{while_output, mapped, reset_when};
 ghost use Rattle.zs_bounds.specs.DecisionRange.{no_decision};
-ghost use Rattle.zs_bounds.specs.StateRange.{items, more_steps, more_time};
+ghost use Rattle.zs_bounds.specs.StateRange.{items};
 ghost use Rattle.zs_bounds.specs.Node.{node_range, node_state, turns_range, turn_added, KnowsFirst, KnowsFirsts, KnowsTurns, SameNode};
 ghost use Rattle.zs_bounds.specs.Reads.{Shows};
-ghost use Rattle.zs_bounds.specs.Steps.{Gives, IsLeft, IsRight, IsEither, DecideBoth, Moves, MoveBoth, MovesPart, MovesTurns, over_range, over_next, items_range, items_next, pairs_output, merged_range, first_turn_range, second_turn_range, leaf_results, may_end, stays_on};
+ghost use Rattle.zs_bounds.specs.Steps.{Gives, IsLeft, IsRight, IsEither, DecideBoth, Moves, MoveBoth, MovesPart, MovesTurns, over_range, over_next, items_range, items_next, pairs_output, merged_range, first_turn_range, second_turn_range, may_end, stays_on};
 
 use crate::decisions::Decisions;
-use crate::leaves::{Leaf, leaf_range};
+use crate::leaves::leaf_range;
 use crate::node::{Node, add_first, any_input, more_items, refresh};
-use crate::ranges::{OutRange, make_pairs, may_fail, may_pass, picked_span};
+use crate::ranges::{OutRange, func_range, make_pairs, may_fail, may_pass, picked_span};
 use crate::reads::{Reads, join_read};
 use crate::span::Span;
 use crate::turns::{ResetRule, Turn, Turns};
 use std::alloc::{AllocError, Global};
+use std::mem::replace;
 use zs_term::{Func, Pick, Test};
 
 // What each node is given at a step: memory, and the times up to it since the one before.
@@ -36,53 +37,37 @@ pub(crate) fn step(next: Next, reads: &Reads<'_>, node: &mut Node, out: &mut Out
     ensures moves { OnOk result (Moves node.old node.new next.later) }
 {
     match node {
-        Node::Leaf { leaf, steps, time } => Ok(step_leaf(next, reads, *leaf, steps, time, out)),
-        Node::Both { first, second } => {
+        Node::Leaf(leaf, steps, time) => {
+            *steps = steps.more_steps();
+            *time = time.more_time(next.later);
+            let (x, decision) = leaf_range(*leaf, *steps, *time);
+            *out = x;
+            Ok(decision)
+        }
+        Node::Both(first, second) => {
             let (x, y) = step_pair(next, reads, first, second, out)?;
             Ok(x.both(y))
         }
-        Node::Either { first, second } => {
+        Node::Either(first, second) => {
             let (x, y) = step_pair(next, reads, first, second, out)?;
             Ok(x.either(y))
         }
-        Node::AndThen {
-            turns,
-            first,
-            second,
-        } => step_and_then(next, reads, turns, first, second, out),
-        Node::WhileInput { part, test } => step_while_input(next, reads, part, *test, out),
-        Node::WhileOutput { part, pick, test } => step_while_output(
+        Node::AndThen(turns, first, second) => {
+            step_and_then(next, reads, turns, first, second, out)
+        }
+        Node::WhileInput(part, test) => {
+            let x = step(next, reads, part, out)?;
+            Ok(x.under(*test, any_input()))
+        }
+        Node::WhileOutput(part, pick, test) => step_while_output(
             next, reads, part, *pick, *test, out,
         ),
-        Node::CollectAll { part, items, .. } => step_collect_all(next, reads, part, items, out),
-        Node::Map { part, func } => step_map(next, reads, part, *func, out),
-        Node::ResetWhen {
-            part,
-            rule,
-            begins,
-            start,
-        } => step_reset_when(next, reads, part, *rule, (start, *begins), out),
+        Node::CollectAll(part, _, items) => step_collect_all(next, reads, part, items, out),
+        Node::Map(part, func) => step_map(next, reads, part, *func, out),
+        Node::ResetWhen(part, rule, begins, start) => {
+            step_reset_when(next, reads, part, *rule, (start, *begins), out)
+        }
     }
-}
-
-// One step of a leaf.
-fn step_leaf(
-    next: Next,
-    reads: &Reads<'_>,
-    leaf: Leaf,
-    steps: &mut Span,
-    time: &mut Span,
-    out: &mut OutRange,
-) -> Decisions
-    ensures steps { steps.new ≡ more_steps steps.old }
-    ensures time { time.new ≡ more_time next.later time.old }
-    ensures gives { Gives reads.now (leaf_results leaf steps.new time.new) out.new result }
-{
-    *steps = steps.more_steps();
-    *time = time.more_time(next.later);
-    let (x, decision) = leaf_range(leaf, *steps, *time);
-    reads.put(x, out);
-    decision
 }
 
 // One step of both parts of pairs: what is read of the pairs, and what each part may decide.
@@ -105,35 +90,17 @@ fn step_pair(
         let x = step(next, reads, first, out)?;
         return Ok((x, step(next, reads, second, out)?));
     }
+    let (v, w) = reads.of_parts();
     // Pairs of an earlier step are written over.
     if let OutRange::Pairs(a, b) = out {
-        let x = step(next, &reads.of_first(), first, a)?;
-        return Ok((x, step(next, &reads.of_second(), second, b)?));
+        let x = step(next, &v, first, a)?;
+        return Ok((x, step(next, &w, second, b)?));
     }
     let (mut a, mut b) = (OutRange::Nothing, OutRange::Nothing);
-    let x = step(next, &reads.of_first(), first, &mut a)?;
-    let y = step(next, &reads.of_second(), second, &mut b)?;
+    let x = step(next, &v, first, &mut a)?;
+    let y = step(next, &w, second, &mut b)?;
     *out = make_pairs(next.alloc, a, b)?;
     Ok((x, y))
-}
-
-// One step of a part under a test of the input.
-#[cycle(stepping)]
-fn step_while_input(
-    next: Next,
-    reads: &Reads<'_>,
-    part: &mut Node,
-    test: Test,
-    out: &mut OutRange,
-) -> Stepped
-    requires firsts { KnowsFirsts part.old }
-    ensures gives { IfOk result
-        (Gives reads.now (over_range (while_input test) part.old next.later) out.new) }
-    ensures moves { OnOk result (Moves part.old part.new next.later) }
-{
-    let x = step(next, reads, part, out)?;
-    let input = any_input();
-    Ok(x.under(test, input))
 }
 
 // One step of a part under a test of its output.
@@ -177,7 +144,7 @@ fn step_collect_all(
     let decision = step(next, &Reads::Nothing, part, out)?;
     let earlier = *count;
     *count = more_items(decision, earlier);
-    reads.put(OutRange::Lists(earlier), out);
+    *out = OutRange::Lists(earlier);
     Ok(decision)
 }
 
@@ -197,19 +164,14 @@ fn step_map(
     ensures moves { OnOk result (Moves part.old part.new next.later) }
 {
     if let Func::Merge = func {
-        if let Node::AndThen {
-            turns,
-            first,
-            second,
-        } = part
-        {
+        if let Node::AndThen(turns, first, second) = part {
             return step_merged(next, reads, turns, first, second, out);
         }
     }
     let (none, kept) = (Reads::Nothing, *reads);
     let made = kept.through(func, &none);
     let decision = step(next, &made, part, out)?;
-    reads.apply(func, out);
+    *out = func_range(func, replace(out, OutRange::Nothing));
     Ok(decision)
 }
 
@@ -259,9 +221,6 @@ fn step_and_then(
     ensures moves { OnOk result
         (MovesTurns turns.old turns.new first.old first.new second.old second.new next.later) }
 {
-    if let Reads::Nothing = reads {
-        return step_turns(next, reads, turns, first, second, out);
-    }
     let side = reads.of_side();
     // The sides of an earlier step are written over.
     if let OutRange::Sides(a, b) = out {
@@ -294,7 +253,7 @@ fn step_merged(
         (MovesTurns turns.old turns.new first.old first.new second.old second.new next.later) }
 {
     let decision = step_turns(next, reads, turns, first, second, out)?;
-    join_read(next.alloc, reads, out, &turns.made)?;
+    join_read(next.alloc, reads, true, out, &turns.made)?;
     Ok(decision)
 }
 
@@ -325,7 +284,7 @@ fn step_turns(
     let (left, begins) = step_first(next, reads, &mut turns.first, first, out)?;
     let right = step_second(next, reads, &mut turns.second, second, &mut turns.made)?;
     let new = begin_second(begins, &mut turns.second);
-    reads.join(next.alloc, begins, &mut turns.made, &turns.start)?;
+    join_read(next.alloc, reads, begins, &mut turns.made, &turns.start)?;
     Ok(left.hull(right).hull(new))
 }
 
@@ -354,7 +313,7 @@ fn step_first(
     let x = step(next, reads, part, out)?;
     *turn = turn.step(x.may_go_on());
     if x.may_go_on() {
-        return Ok((x.going_on(), x.stops));
+        return Ok((Decisions::always(x.waits), x.stops));
     }
     *out = OutRange::Nothing;
     Ok((Decisions::nothing(), x.stops))

@@ -1,7 +1,7 @@
 //! What is known of a schedule for every history that a driver can make.
 
 ghost use Rattle.std.specs.Prelude.{◌≡◌, ◌+◌, ◌<◌, ◌^◌};
-ghost use Rattle.zs_bounds.specs.BoundsOf.{no_bounds, with_step, ended, unended, sum_within, longest_in, longer_run};
+ghost use Rattle.zs_bounds.specs.BoundsOf.{no_bounds, with_step, ended, unended, sum_within, longer_run};
 
 use crate::decisions::Decisions;
 use crate::durations::Durations;
@@ -46,7 +46,7 @@ impl Bounds {
         requires within { self.seen + 1 < 2 ^ 64 }
         ensures value { result ≡ with_step durations decision self }
     {
-        let wait = longest_in(decision.waits);
+        let wait = decision.waits.map_or(0, |span| span.high);
         let goes_on = self.seen < self.least && !decision.stops;
         Bounds {
             seen: self.seen + 1,
@@ -63,7 +63,7 @@ impl Bounds {
     }
 
     // The last step that was seen is the last that there may be.
-    pub(crate) fn ended(self) -> Bounds
+    pub(crate) fn with_end(self) -> Bounds
         ensures value { result ≡ ended self }
     {
         Bounds {
@@ -73,7 +73,7 @@ impl Bounds {
     }
 
     // There may be more steps than were seen.
-    pub(crate) fn unended(self) -> Bounds
+    pub(crate) fn without_end(self) -> Bounds
         ensures value { result ≡ unended self }
     {
         Bounds {
@@ -82,16 +82,6 @@ impl Bounds {
             longest_run: None,
             ..self
         }
-    }
-}
-
-// The longest wait of some decisions.
-fn longest_in(waits: Option<Span>) -> u64
-    ensures value { result ≡ longest_in waits }
-{
-    match waits {
-        None => 0,
-        Some(span) => span.high,
     }
 }
 

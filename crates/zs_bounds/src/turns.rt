@@ -1,11 +1,12 @@
 //! Two parts in turn, what their states still lack, and when a part is reset.
 
 ghost use Rattle.std.specs.Prelude.{◌≡◌, ◌||◌};
-ghost use Rattle.zs_bounds.specs.Node.{fresh_added, turn_added, turn_of};
+ghost use Rattle.zs_bounds.specs.Node.{fresh_added, fresh_span, turn_added, turn_of, turn_refreshed};
 ghost use Rattle.zs_bounds.specs.declared.turns.Fresh.TheVariants.{Nothing, Alone};
 
 use crate::decisions::Decisions;
 use crate::ranges::OutRange;
+use crate::span::Span;
 use zs_term::{Pick, Test};
 
 // What the states of a part still lack: nothing, the state after the first step beside them, or
@@ -75,6 +76,17 @@ impl Turn {
         }
     }
 
+    // A part whose states get what those of both parts lack.
+    pub(crate) fn refresh(self, fresh: Fresh, begins: bool) -> Turn
+        ensures value { result ≡ turn_refreshed fresh begins self }
+    {
+        match fresh {
+            Fresh::Nothing => self,
+            Fresh::Beside => self.add_first(begins),
+            Fresh::Alone => Turn::first(begins, self.begins),
+        }
+    }
+
     // A part whose states lack nothing.
     pub(crate) fn step(self, is_on: bool) -> Turn
         ensures value { result ≡ turn_of is_on self.begins Nothing }
@@ -90,7 +102,7 @@ impl Turn {
 impl Fresh {
     // What is lacking if the part may also begin. Its first step is its only state if it was not
     // on.
-    fn add_first(self, begins: bool, is_on: bool) -> Fresh
+    pub(crate) fn add_first(self, begins: bool, is_on: bool) -> Fresh
         ensures value { result ≡ fresh_added begins is_on self }
     {
         if !begins {
@@ -103,6 +115,17 @@ impl Fresh {
             Fresh::Nothing => Fresh::Beside,
             Fresh::Beside => Fresh::Beside,
             Fresh::Alone => Fresh::Alone,
+        }
+    }
+
+    // A span of numbers with what is lacking.
+    pub(crate) fn widen(self, span: Span, first: Span) -> Span
+        ensures value { result ≡ fresh_span self span first }
+    {
+        match self {
+            Fresh::Nothing => span,
+            Fresh::Beside => span.hull(first),
+            Fresh::Alone => first,
         }
     }
 }

@@ -1,22 +1,12 @@
 use Rattle.std.proofs.Common.{◌||◌, ap, ◌∙◌}
 use Rattle.zs_bounds.specs.declared.turns.Turn.{Turn}
-use Rattle.zs_bounds.specs.AnswerRange.{AnswerRange, any_input}
-use Rattle.zs_bounds.specs.DecisionRange.{test_decides}
-use Rattle.zs_bounds.specs.OutputRange.{may_pass, may_fail}
+use Rattle.zs_bounds.specs.AnswerRange.{AnswerRange}
 use Rattle.zs_bounds.specs.OutRange.{output_range_of}
 use Rattle.zs_bounds.specs.StateRange.{first_range, next_range}
 use Rattle.zs_bounds.specs.Node.{node_schedule, node_state, part_state, turns_range}
 use Rattle.zs_bounds.specs.Reads.{want_of}
 use Rattle.zs_bounds.proofs.Reading.{turn_left, turn_right, turn_any, merge_shows, pick_shows, pick_decides, reset_reads, reset_decides}
 use Rattle.zs_bounds.proofs.stepping.+stepping.Goals as goal
-
-pub step_while_input-returns-clause-gives : goal.step_while_input-returns-clause-gives
-step_while_input-returns-clause-gives t c = record {
-  output = c.in_ok-x.ensures.gives.output;
-  decision = c.under.ensures.value
-      ∙ ap (λ s. test_decides (may_pass c.args.test s) (may_fail c.args.test s) c.in_ok-x.x) c.any_input-input.ensures.value
-      ∙ ap (λ d. test_decides (may_pass c.args.test any_input) (may_fail c.args.test any_input) d) c.in_ok-x.ensures.gives.decision;
-}
 
 pub step_while_output-returns-clause-gives : goal.step_while_output-returns-clause-gives
 step_while_output-returns-clause-gives t c =
@@ -56,8 +46,8 @@ step_turns-returns-clause-right t c =
     let y = part_state c.args.turns.now.second c.args.second.now in
     turn_right (want_of c.args.reads.now) c.args.turns.now.first.is_on c.args.turns.now.second.is_on c.in_ok-left.begins
     (next_range a x c.args.next.later) (next_range b y c.args.next.later) (first_range b)
-    (output_range_of c.step_second.new.out) (output_range_of c.join.new.range) (output_range_of c.args.turns.now.start)
-    c.in_ok-right.ensures.gives.output c.in_ok-left.ensures.stops c.in_ok-join.ensures.value (ap (λ (r : AnswerRange). r.output) c.requires.firsts.2)
+    (output_range_of c.step_second.new.out) (output_range_of c.join_read.new.range) (output_range_of c.args.turns.now.start)
+    c.in_ok-right.ensures.gives.output c.in_ok-left.ensures.stops c.in_ok-join_read.ensures.value (ap (λ (r : AnswerRange). r.output) c.requires.firsts.2)
 
 pub step_turns-returns-clause-any : goal.step_turns-returns-clause-any
 step_turns-returns-clause-any t c =

@@ -10,9 +10,6 @@ decreases-step l = 4 * weight (node_schedule l.node.now)
 abbrev pub decreases-step_pair : goal.decreases-step_pair
 decreases-step_pair l = 4 * (weight (node_schedule l.first.now) + weight (node_schedule l.second.now)) + 1
 
-abbrev pub decreases-step_while_input : goal.decreases-step_while_input
-decreases-step_while_input l = 4 * weight (node_schedule l.part.now) + 1
-
 abbrev pub decreases-step_while_output : goal.decreases-step_while_output
 decreases-step_while_output l = 4 * weight (node_schedule l.part.now) + 1
 
