@@ -36,7 +36,7 @@ pub(crate) fn schedule_in(alloc: Global, text: &[u8]) -> Result<Checked, Refusal
 }
 
 // Returns the result of a text's schedule at the last pair.
-pub(crate) fn answered(alloc: Global, text: &[u8], seen: &[Seen]) -> Result<Stepped, Refusal>
+pub(crate) fn answer_in(alloc: Global, text: &[u8], seen: &[Seen]) -> Result<Stepped, Refusal>
     ensures ok { IfOk result (HasAnswer text.now (pairs_of seen.now)) }
     ensures err { IfErr result (IsRefusal text.now (pairs_of seen.now)) }
 {
@@ -52,7 +52,7 @@ pub(crate) fn answered(alloc: Global, text: &[u8], seen: &[Seen]) -> Result<Step
 
 // Writes a result to `reply` and `out`, and returns the number of its decision. Fails only with
 // `Memory`, and then `out` is unchanged.
-pub(crate) fn told(
+pub(crate) fn tell(
     alloc: Global,
     stepped: &Stepped,
     reply: &mut Reply,
@@ -67,7 +67,7 @@ pub(crate) fn told(
         return Err(Refusal::Memory);
     };
     put(out, text.as_bytes());
-    let (number, next) = decided(stepped.decision);
+    let (number, next) = decision_parts(stepped.decision);
     *reply = Reply {
         next,
         size: text.len() as u64,
@@ -78,7 +78,7 @@ pub(crate) fn told(
 }
 
 // Returns the number of a decision, and the moment at which the schedule continues, or 0.
-fn decided(decision: Decision) -> (u32, u64)
+fn decision_parts(decision: Decision) -> (u32, u64)
     ensures number { result.0 ≡ decision_number decision }
     ensures told { result.0 ≤ 1 }
     ensures next { result.1 ≡ next_moment decision }

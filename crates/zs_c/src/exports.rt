@@ -8,7 +8,7 @@ ghost use Rattle.zs_c.specs.Numbers.{refusal_place};
 ghost use Rattle.zs_c.specs.Refusals.{SpellsSome};
 ghost use Rattle.zs_c.specs.Told.{IsAnswered, IsRefused, IsRefusedFor, IsTextRefused, written};
 
-use crate::answering::{answered, schedule_in, told};
+use crate::answering::{answer_in, schedule_in, tell};
 use crate::bounding::{BoundsTold, GivenDurations, bounds_in};
 use crate::refusal::Refusal;
 use crate::reply::Reply;
@@ -52,8 +52,8 @@ pub fn zs_answer(
     ensures refused { 1 < result → IsRefused text.now (pairs_of seen.now) result reply.new }
     ensures kept { 1 < result → out.new ≡ out.old }
 {
-    let why = match answered(alloc, text, seen) {
-        Ok(stepped) => match told(alloc, &stepped, reply, out) {
+    let why = match answer_in(alloc, text, seen) {
+        Ok(stepped) => match tell(alloc, &stepped, reply, out) {
             Ok(number) => return number,
             Err(why) => why,
         },
