@@ -1,9 +1,10 @@
 -- What is written for some lines: for each policy a line of JSON with its bounds.
-use Rattle.std.specs.Prelude.{ℕ, List, [], ◌∷◌, ◌++◌, codes, Option, Some, None, Result, Ok, Err}
+use Rattle.std.specs.Prelude.{ℕ, List, [], ◌∷◌, ◌++◌, codes, Bool, if◌then◌else◌, Option, Some}
+use Rattle.std.specs.Prelude.{None, Result, Ok, Err}
 use Rattle.std.specs.Fmt.{decimal}
 use Rattle.zs_term.specs.Schedule.{Schedule}
 use Rattle.zs_term.specs.Canonical.{canonical_text}
-use Rattle.zs_bounds.specs.BoundsOf.{bounds_of}
+use Rattle.zs_bounds.specs.BoundsOf.{bounds_of, never_stops}
 use Rattle.zs_bounds.specs.declared.durations.Durations.{Durations}
 use Rattle.zs_bounds.specs.declared.told.Bounds.{Bounds}
 use Rattle.zs_bounds_lines.specs.Policies.{policy_of}
@@ -14,6 +15,10 @@ use Rattle.zs_bounds_lines.specs.declared.options.Options.{Options}
 abbrev pub limit_text : Option ℕ → List ℕ
 limit_text None = codes "null"
 limit_text (Some n) = decimal n
+
+-- whether something is so
+abbrev pub truth_text : Bool → List ℕ
+truth_text b = if b then codes "true" else codes "false"
 
 -- the least and the most of something
 abbrev pub range_text : ℕ → Option ℕ → List ℕ
@@ -30,17 +35,18 @@ times_text b =
 abbrev pub steps_text : Bounds → List ℕ
 steps_text b = codes ",\"steps_seen\":" ++ decimal b.seen ++ codes "}\n"
 
--- the line of a policy with these durations of attempts and these bounds
-abbrev pub json_line : List ℕ → Durations → Bounds → List ℕ
-json_line policy d b =
+-- the line of a policy with these durations of attempts, whether it never gives up, and its bounds
+abbrev pub json_line : List ℕ → Durations → Bool → Bounds → List ℕ
+json_line policy d never b =
     codes "{\"policy\":\"" ++ policy ++ codes "\",\"attempt\":"
     ++ range_text d.least d.most ++ codes ",\"attempts\":" ++ range_text b.least b.most
-    ++ times_text b ++ steps_text b
+    ++ codes ",\"never_gives_up\":" ++ truth_text never ++ times_text b ++ steps_text b
 
--- the line of a policy, as its canonical spelling, with the bounds of it
+-- the line of a policy, as its canonical spelling, with what is proved of it
 abbrev pub bounds_line : Options → Schedule → List ℕ
 bounds_line options s =
-    json_line (canonical_text s) options.attempt (bounds_of s options.attempt options.steps)
+    json_line (canonical_text s) options.attempt (never_stops s)
+    (bounds_of s options.attempt options.steps)
 
 -- what is written for a line: nothing if it has no policy
 abbrev pub line_text : Options → Result (Option Schedule) PolicyFault → Result (List ℕ) PolicyFault

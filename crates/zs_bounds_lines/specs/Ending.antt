@@ -1,7 +1,7 @@
 -- How a run over lines ends: for success and each fault, what was read, what was written, and which
 -- of the two failed.
 use Rattle.std.specs.Prelude.{◌≡◌, ◌≤◌, ℕ, ◌+◌, List, [], ◌∷◌, ◌++◌, length, take, Bool, true}
-use Rattle.std.specs.Prelude.{false, Some, Result, Ok, Err, IfSome}
+use Rattle.std.specs.Prelude.{false, Option, Some, Result, Ok, Err, IfSome}
 use Rattle.std.specs.Io.KnownBytes.{Appends}
 use Rattle.zs_run.specs.Headline.{Reading, Writing}
 use Rattle.zs_lines.specs.Buffers.{BeginsWith}
@@ -11,6 +11,26 @@ use Rattle.zs_bounds_lines.specs.declared.fault.BoundsFault.{BoundsFault}
 use Rattle.zs_bounds_lines.specs.declared.fault.BoundsFault.TheVariants.{Read, Line, Memory, Write}
 use Rattle.zs_bounds_lines.specs.declared.fault.BoundsFault.TheVariants.{Words}
 use Rattle.zs_bounds_lines.specs.declared.options.Options.{Options}
+
+-- a reader before and after a call
+abbrev pub reading : {R : Type 0} → (R → Option (List ℕ)) → (R → Bool) → R → R → Reading
+reading remaining mark old new =
+    record { before = remaining old; left = remaining new; failed = mark new }
+
+-- a writer before and after a call
+abbrev pub writing : {W : Type 0} → (W → Option (List ℕ)) → (W → Bool) → (W → Bool)
+    → W → W → Writing
+writing contents mark flushed old new = record {
+  before = contents old;
+  taken = contents new;
+  failed = mark new;
+  flushed = flushed new;
+}
+
+-- A writer before and after a call has property P, which also takes whether it is unchanged.
+abbrev pub ByWriter : {W : Type 0} → (W → Option (List ℕ)) → (W → Bool) → (W → Bool) → W → W
+    → (Writing → Type 0 → Type 0) → Type 0
+ByWriter contents mark flushed old new P = P (writing contents mark flushed old new) (new ≡ old)
 
 -- what is seen of the writer after a text: it was flushed, or it is unchanged if there is no text
 abbrev pub IsWhole : List ℕ → Bool → Type 0 → Type 0

@@ -1,7 +1,7 @@
 -- The request that the words of a command line are.
 use Rattle.std.specs.Prelude.{◌≡◌, ℕ, ◌+◌, ◌*◌, ◌-◌, List, [], ◌∷◌, length, take, drop, codes}
-use Rattle.std.specs.Prelude.{bytes_eq, nat_le, nat_lt, ◌==◌, ◌&&◌, true, false, if◌then◌else◌}
-use Rattle.std.specs.Prelude.{Option, Some, None, option_and_then, Result, Ok, Err}
+use Rattle.std.specs.Prelude.{bytes_eq, nat_le, nat_lt, ◌==◌, ◌&&◌, Bool, true, false}
+use Rattle.std.specs.Prelude.{if◌then◌else◌, Option, Some, None, option_and_then, Result, Ok, Err}
 use Rattle.std.specs.Char.{is_ascii_digit}
 use Rattle.std.specs.Io.KnownBytes.{Appends}
 use Rattle.zs_term.specs.Saturating.{max_moment}
@@ -139,3 +139,15 @@ ProgramEnds (Ok Help) result r w Untouched = WroteText HELP.now result w
 ProgramEnds (Ok Version) result r w Untouched = WroteText VERSION.now result w
 ProgramEnds (Ok (Run options)) result r w Untouched = Ends options result r w Untouched
 ProgramEnds (Err fault) result r w Untouched = (result ≡ Err (Words fault)) × Untouched
+
+-- How the program ends, by the words after its name.
+abbrev pub WordsEnd : List (List ℕ)
+    → Result (Unit {0}) BoundsFault → Reading → Writing → Type 0 → Type 0
+WordsEnd words = ProgramEnds (request_from usual_options words)
+
+-- Words make the program read lines.
+abbrev pub reads_lines : Result Request OptionFault → Bool
+reads_lines (Ok Help) = false
+reads_lines (Ok Version) = false
+reads_lines (Ok (Run options)) = true
+reads_lines (Err fault) = false

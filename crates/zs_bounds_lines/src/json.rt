@@ -1,11 +1,11 @@
 //! Bounds as a line of JSON.
 ghost use Rattle.std.specs.Prelude.{◌≡◌, ◌++◌, OnOk, IfOk, string_bytes};
 ghost use Rattle.zs_term.specs.Schedule.{schedule_of};
-ghost use Rattle.zs_bounds_lines.specs.BoundsLines.{bounds_line, json_line, limit_text, range_text, times_text};
+ghost use Rattle.zs_bounds_lines.specs.BoundsLines.{bounds_line, json_line, limit_text, range_text, times_text, truth_text};
 
 use crate::options::Options;
 use std::alloc::{AllocError, Global};
-use zs_bounds::{Bounds, Durations, bounds};
+use zs_bounds::{Bounds, Durations, bounds, never_gives_up};
 use zs_term::{Checked, write};
 
 // Appends a number, or null.
@@ -15,6 +15,17 @@ fn push_limit(text: &mut String, limit: Option<u64>) -> Result<(), AllocError>
     match limit {
         Some(number) => write!(text, "{number}"),
         None => text.push_str("null"),
+    }
+}
+
+// Appends whether something is so.
+fn push_truth(text: &mut String, truth: bool) -> Result<(), AllocError>
+    ensures text { OnOk result (string_bytes text.new ≡ string_bytes text.old ++ truth_text truth) }
+{
+    if truth {
+        text.push_str("true")
+    } else {
+        text.push_str("false")
     }
 }
 
@@ -42,20 +53,25 @@ fn push_times(text: &mut String, told: &Bounds) -> Result<(), AllocError>
     Ok(())
 }
 
-// Appends the line of a policy with these durations of attempts and these bounds.
+// Appends the line of a policy with these durations of attempts, whether it never gives up, and
+// its bounds.
 fn push_line(
     text: &mut String,
     policy: &str,
     attempt: Durations,
+    endless: bool,
     told: &Bounds,
 ) -> Result<(), AllocError>
     ensures text { OnOk result
-        (string_bytes text.new ≡ string_bytes text.old ++ json_line policy.now attempt told.now) }
+        (string_bytes text.new ≡ string_bytes text.old
+        ++ json_line policy.now attempt endless told.now) }
 {
     write!(text, "{{\"policy\":\"{policy}\",\"attempt\":")?;
     push_range(text, attempt.least, attempt.most)?;
     text.push_str(",\"attempts\":")?;
     push_range(text, told.least, told.most)?;
+    text.push_str(",\"never_gives_up\":")?;
+    push_truth(text, endless)?;
     push_times(text, told)?;
     let seen = told.seen;
     writeln!(text, ",\"steps_seen\":{seen}}}")?;
@@ -73,7 +89,14 @@ pub(crate) fn line_of(
 {
     let told = bounds(alloc, policy, options.attempt, options.steps)?;
     let spelling = write(alloc, policy)?;
+    let endless = never_gives_up(policy);
     let mut text = String::new(alloc);
-    push_line(&mut text, spelling.as_str(), options.attempt, &told)?;
+    push_line(
+        &mut text,
+        spelling.as_str(),
+        options.attempt,
+        endless,
+        &told,
+    )?;
     Ok(text)
 }

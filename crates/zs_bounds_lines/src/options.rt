@@ -4,9 +4,9 @@ use zs_bounds::Durations;
 
 /// What the bounds depend on beside the policy.
 #[derive(Clone, Copy, Debug, PartialEq, Eq)]
-pub struct Options {
+pub(crate) struct Options {
     /// How long each attempt takes.
-    pub attempt: Durations,
+    pub(crate) attempt: Durations,
     /// At most this number of steps of each policy is looked at.
-    pub steps: u64,
+    pub(crate) steps: u64,
 }

@@ -1,8 +1,10 @@
 //! The program, by the words of its command line.
 ghost use Rattle.std.specs.Prelude.{◌≡◌, false, map, string_bytes};
-ghost use Rattle.zs_bounds_lines.specs.Words.{ProgramEnds, WroteText, request_from, usual_options};
+ghost use Rattle.zs_bounds_lines.specs.Ending.{ByWriter, reading, writing};
+ghost use Rattle.zs_bounds_lines.specs.Words.{WordsEnd, WroteText, reads_lines};
+ghost use Rattle.zs_bounds_lines.specs.Words.{request_from, usual_options};
 
-use crate::fault::BoundsFault;
+use crate::fault::{BoundsFault, OptionFault};
 use crate::options::Options;
 use crate::running::run_bounds;
 use crate::words::{Request, request_from};
@@ -23,16 +25,30 @@ Empty lines, and lines that begin with #, are passed over.
   --version           prints the version
 ";
 
+// The request of the words after the program's name.
+fn request_of(words: &[String]) -> Result<Request, OptionFault>
+    ensures value { result ≡ request_from usual_options (map string_bytes words.now) }
+{
+    let usual = Options {
+        attempt: Durations::any(),
+        steps: 20_000,
+    };
+    request_from(usual, words)
+}
+
+/// Whether the program reads lines, by the words after its name.
+pub fn reads_lines(words: &[String]) -> bool
+    ensures value { result ≡
+        reads_lines (request_from usual_options (map string_bytes words.now)) }
+{
+    matches!(request_of(words), Ok(Request::Run(_)))
+}
+
 // Writes a text and flushes.
 fn print<W: Drain>(writer: &mut W, text: &str) -> Result<(), BoundsFault>
     requires clear { W.mark writer.old ≡ false }
     ensures text { WroteText text.now result
-        (record {
-          before = W.contents writer.old;
-          taken = W.contents writer.new;
-          failed = W.mark writer.new;
-          flushed = W.flushed writer.new;
-        }) }
+        (writing W.contents W.mark W.flushed writer.old writer.new) }
 {
     match write_all(writer, text.as_bytes()) {
         Ok(()) => Ok(()),
@@ -50,25 +66,10 @@ pub fn run_words<R: Source, W: Drain>(
     requires reader_clear { R.mark reader.old ≡ false }
     requires writer_clear { W.mark writer.old ≡ false }
 
-    ensures ends { ProgramEnds (request_from usual_options (map string_bytes words.now)) result
-        (record {
-          before = R.remaining reader.old;
-          left = R.remaining reader.new;
-          failed = R.mark reader.new;
-        })
-        (record {
-          before = W.contents writer.old;
-          taken = W.contents writer.new;
-          failed = W.mark writer.new;
-          flushed = W.flushed writer.new;
-        })
-        (writer.new ≡ writer.old) }
+    ensures ends { ByWriter W.contents W.mark W.flushed writer.old writer.new (WordsEnd
+        (map string_bytes words.now) result (reading R.remaining R.mark reader.old reader.new)) }
 {
-    let usual = Options {
-        attempt: Durations::any(),
-        steps: 20_000,
-    };
-    match request_from(usual, words) {
+    match request_of(words) {
         Ok(Request::Run(options)) => run_bounds(alloc, options, reader, writer),
         Ok(Request::Help) => print(writer, HELP),
         Ok(Request::Version) => print(writer, VERSION),

@@ -1,6 +1,6 @@
 //! The run over the lines of a reader.
 ghost use Rattle.std.specs.Prelude.{◌≡◌, ◌↔◌, false, IsErrOf, IsTrue};
-ghost use Rattle.zs_bounds_lines.specs.Ending.{Ends};
+ghost use Rattle.zs_bounds_lines.specs.Ending.{ByWriter, Ends, reading};
 ghost use Rattle.zs_bounds_lines.specs.Steps.{LineEnds};
 
 use crate::fault::BoundsFault;
@@ -20,14 +20,8 @@ fn write_line<W: Drain>(
     writer: &mut W,
 ) -> Result<(), BoundsFault>
     requires clear { W.mark writer.old ≡ false }
-    ensures ends { LineEnds options number line.now result
-        (record {
-          before = W.contents writer.old;
-          taken = W.contents writer.new;
-          failed = W.mark writer.new;
-          flushed = W.flushed writer.new;
-        })
-        (writer.new ≡ writer.old) }
+    ensures ends { ByWriter W.contents W.mark W.flushed writer.old writer.new
+        (LineEnds options number line.now result) }
 {
     let Some(policy) = read_policy(alloc, number, line)? else {
         return Ok(());
@@ -45,7 +39,7 @@ fn write_line<W: Drain>(
 /// and flushes, before the next line is read.
 ///
 /// The clauses on bytes hold if reader and writer expose theirs.
-pub fn run_bounds<R: Source, W: Drain>(
+pub(crate) fn run_bounds<R: Source, W: Drain>(
     alloc: Global,
     options: Options,
     reader: &mut R,
@@ -55,19 +49,8 @@ pub fn run_bounds<R: Source, W: Drain>(
     requires writer_clear { W.mark writer.old ≡ false }
 
     // Success and each fault, by the reader, the writer, and whether the writer is unchanged.
-    ensures ends { Ends options result
-        (record {
-          before = R.remaining reader.old;
-          left = R.remaining reader.new;
-          failed = R.mark reader.new;
-        })
-        (record {
-          before = W.contents writer.old;
-          taken = W.contents writer.new;
-          failed = W.mark writer.new;
-          flushed = W.flushed writer.new;
-        })
-        (writer.new ≡ writer.old) }
+    ensures ends { ByWriter W.contents W.mark W.flushed writer.old writer.new
+        (Ends options result (reading R.remaining R.mark reader.old reader.new)) }
 {
     let mut buffer = Buffer::new(alloc);
     let mut line = Vec::new(alloc);

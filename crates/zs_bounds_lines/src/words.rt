@@ -8,7 +8,7 @@ use zs_bounds::Durations;
 
 /// What the program is to do.
 #[derive(Clone, Copy, Debug, PartialEq, Eq)]
-pub enum Request {
+pub(crate) enum Request {
     /// The text that says how the program is used.
     Help,
     /// The program's name and version.
