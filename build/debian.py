@@ -92,7 +92,8 @@ def put_control(root, fields, description):
     sums = "".join(f"{hashlib.md5(file.read_bytes()).hexdigest()}  {file.relative_to(root)}\n" for file in files)
     put(root / "DEBIAN/md5sums", sums)
     fields = {**fields, "Maintainer": maintainer(), "Installed-Size": size, "Priority": "optional"}
-    put(root / "DEBIAN/control", "".join(f"{name}: {value}\n" for name, value in fields.items()) + f"Description: {description}")
+    put(root / "DEBIAN/control",
+        "".join(f"{name}: {value}\n" for name, value in fields.items()) + f"Description: {description}")
 
 
 def built(root, name, out):

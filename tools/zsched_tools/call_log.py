@@ -358,8 +358,8 @@ def _items(value, *names):
 
 
 def spans_in(documents):
-    """The attempts in documents of OpenTelemetry, as objects with a name for each column: the spans of the kind client, else
-    those without spans below."""
+    """The attempts in documents of OpenTelemetry, as objects with a name for each column: the spans of the kind client,
+    else those without spans below."""
     spans = [span for document in documents for resource in _items(document, "resourceSpans", "resource_spans")
              for scope in _items(resource, "scopeSpans", "scope_spans", "instrumentationLibrarySpans")
              for span in _items(scope, "spans") if isinstance(span, dict)]

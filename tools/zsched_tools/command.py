@@ -25,8 +25,8 @@ class Refused(Exception):
 
 def run(tool, work):
     """Does a command's work and returns its exit status: that of the work (None is 0), 2 if the input is rejected or a
-    program isn't there, 3 if reading, writing or a program failed, 130 if the user interrupted it. Each of these has one
-    line on standard error. `starting.run` does the same, but writes no line if the reader of standard output closes it."""
+    program isn't there, 3 if reading, writing or a program failed, 130 if the user interrupted it. Each of these has
+    one line on standard error. `starting.run` does so too, but writes no line if its reader closes standard output."""
     if sys.stdout is None:
         return _told(tool, "standard output is closed", FAILED)
     try:
@@ -51,8 +51,7 @@ def run(tool, work):
 
 
 def _drop_output():
-    """Redirects standard output to /dev/null: Python flushes it once more at exit, which must not fail. A stream in memory
-    is unchanged."""
+    """Redirects standard output, unless it is in memory, to /dev/null: Python flushes it once more at exit."""
     with contextlib.suppress(io.UnsupportedOperation):
         os.dup2(os.open(os.devnull, os.O_WRONLY), sys.stdout.fileno())
 
@@ -108,7 +107,8 @@ class Paint:
 
 def forms(tool, description, epilog, metavar):
     """The parser of a command of several forms, and what adds a form, by `add_parser`."""
-    made = functools.partial(argparse.ArgumentParser, epilog=epilog, formatter_class=argparse.RawDescriptionHelpFormatter)
+    made = functools.partial(argparse.ArgumentParser, epilog=epilog,
+                             formatter_class=argparse.RawDescriptionHelpFormatter)
     whole = complete(made(prog=tool, description=description))
     return whole, whole.add_subparsers(required=True, metavar=metavar, parser_class=made)
 

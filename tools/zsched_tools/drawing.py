@@ -1,4 +1,4 @@
-"""Elements of a picture in SVG, how wide a text is, and the time axis: the places of moments, and those that have a label."""
+"""Elements of a picture in SVG, how wide a text is, and the time axis: the places of moments, and those with labels."""
 import html
 import itertools
 import math
@@ -38,10 +38,11 @@ def place(pixels):
 
 
 def root(width, height, label, is_file=True):
-    """The beginning of a picture, which is as large as it was drawn: a narrow window scrolls, and letters stay readable."""
+    """The beginning of a picture, which is as large as it was drawn: a narrow window scrolls, letters stay readable."""
     height = place(height)
     kind = 'xmlns="http://www.w3.org/2000/svg" ' if is_file else ""
-    return f'<svg {kind}width="{width}" height="{height}" viewBox="0 0 {width} {height}" role="img" aria-label="{html.escape(label)}">'
+    return (f'<svg {kind}width="{width}" height="{height}" viewBox="0 0 {width} {height}" role="img" '
+            f'aria-label="{html.escape(label)}">')
 
 
 def opening(width, height, label, style, is_file=True, patterns=""):
@@ -76,8 +77,7 @@ def titled(words):
 
 
 class View(NamedTuple):
-    """The part of time that a picture shows: its first and last moment, None for a default; and whether its axis
-    is logarithmic."""
+    """The time that a picture shows: its first and last moment, None for a default; whether its axis is logarithmic."""
     first: int | None = None
     last: int | None = None
     is_log: bool = False
@@ -143,8 +143,7 @@ def _labels_of_times(scale):
 
 def shown_moments(attempts, horizon):
     """The first and the last moment that a picture of some jobs' attempts shows. The time before the first attempt is
-    left out if it would take more than a quarter of the width. The horizon is left out if the attempts would have less
-    than a quarter."""
+    left out if it would take more than a quarter of the width. So is the horizon if they would have less."""
     first = min([listed[0].begin for listed in attempts if listed], default=0)
     lasts = [listed[-1] for listed in attempts if listed]
     last = max([attempt.begin if attempt.end is None else attempt.end for attempt in lasts], default=0)

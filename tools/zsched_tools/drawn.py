@@ -3,6 +3,7 @@
 docs/FORMATS.md has all forms. A schedule has no random numbers, so each draw is a schedule in which its numbers are
 written. The waits of `S jitter ..` come from the program, and must depend on nothing but their number. The first 239
 are drawn one by one, and all later ones, which must be equal, with one draw."""
+import contextlib
 import functools
 import itertools
 import re
@@ -43,7 +44,8 @@ _RANDOM_WAIT = re.compile(r"(?:spaced|linear|fibonacci|exponential)\( *\Z")
 
 class Piece(NamedTuple):
     """A piece of a policy's text. `spelled` is its text without sugar. `draw` returns that of a draw: it gets a source
-    of random numbers, or LOW or HIGH for the least or the greatest draw. It is None if nothing is random."""
+    of random numbers, or LOW or HIGH for the least or the greatest draw, and the most waits (None: all). It is None if
+    nothing is random."""
     at: int
     size: int
     spelled: str
@@ -58,15 +60,14 @@ def refuse(at, size, what, help="", **values):
 def drawn(random, least, most):
     """A whole number from least to most, each equally likely; for LOW and HIGH that end. It uses only `random.random`,
     whose numbers for a seed are the same in all versions of Python."""
-    if random in (LOW, HIGH):
+    if isinstance(random, str):
         return least if random == LOW else most
     return least + int(random.random() * (most - least + 1))
 
 
 class Policy:
     """A policy's text, read once and drawn any number of times. FaultAt has a fault with its place in the text.
-    `zsched` is the program's path (None: the one that is found). `timeout` is the limit of an attempt that its config
-    has."""
+    `zsched` is the program's path (None: the one that is found). `timeout` is its config's limit of an attempt."""
 
     def __init__(self, text, zsched=None):
         self.text, self.zsched, self.left_out, self.timeout = text, zsched, [], None
@@ -99,22 +100,29 @@ class Policy:
         """Whether draws differ."""
         return any(piece.draw for piece in self.pieces)
 
+    @property
+    def is_less(self):
+        """Whether waits may be shorter than those of all draws, since its config draws them in another way."""
+        return any(GREATEST_WAITS in what for what in self.left_out)
+
     def ends(self):
-        """The schedules of the least and the greatest waits, and whether waits may be shorter than the least."""
-        return self.schedule(LOW), self.schedule(HIGH), any(GREATEST_WAITS in what for what in self.left_out)
+        """The schedules of the least and the greatest waits, whether waits may be shorter than the least, and whether
+        others may follow them."""
+        return self.schedule(LOW), self.schedule(HIGH), self.is_less, self.is_cut
 
     @property
     def is_cut(self):
         """Whether the schedule has only the first waits of its config."""
         return any(what.startswith("waits after the first ") for what in self.left_out)
 
-    def texts(self, random):
+    def texts(self, random, most=None):
         """The text of each piece in the next draw."""
-        return [piece.draw(random) if piece.draw else piece.spelled for piece in self.pieces]
+        return [piece.draw(random, most) if piece.draw else piece.spelled for piece in self.pieces]
 
-    def schedule(self, random):
-        """The schedule of the next draw; for LOW and HIGH that of the least and the greatest waits."""
-        return "".join(self.texts(random))
+    def schedule(self, random, most=None):
+        """The schedule of the next draw; for LOW and HIGH that of the least and the greatest waits. With `most` it may
+        have only so many of its drawn waits."""
+        return "".join(self.texts(random, most))
 
     def show(self, tool, is_limited=False):
         """Writes the schedule that the text becomes, and what that leaves out, to standard error. `is_limited` says
@@ -155,6 +163,10 @@ class Policy:
 
         All parts but a limit of time evaluate the same steps whatever they wait, and a longer wait of a part makes no
         wait of the whole shorter. A limit of time that all parts are under ends no later if the waits are longer."""
+        if self.is_less:
+            with contextlib.suppress(FaultAt):
+                return Policy(f"{self.source} jitter full", self.zsched).limits()
+            return None
         fixed = "".join("0" if piece.draw and piece.size else piece.spelled for piece in self.pieces)
         rest, count = re.subn(_LIMIT, "forever", fixed)
         words = set(re.findall("[A-Za-z]+", rest))
@@ -180,9 +192,9 @@ class Policy:
             refuse(begin, end - begin, "drawn_already", "or_rand")
         if unsteady:
             refuse(begin, end - begin, "depend", "without", text=min(unsteady))
-        ends, word = _ends(found), Piece(found.start(), len(found[0]), found[0], lambda _: "")
-        return word, Piece(begin, end - begin, inner.spelled, lambda random: _jittered(
-            self.zsched or program.find(), inner, begin, ends, random))
+        ends, word = _ends(found), Piece(found.start(), len(found[0]), found[0], lambda *_: "")
+        made = functools.cache(lambda: _jittered(self.zsched or program.find(), inner, begin, ends))
+        return word, Piece(begin, end - begin, inner.spelled, lambda *draw: _filled(*made(), *draw))
 
 
 def _ends(found):
@@ -237,11 +249,11 @@ def _called(found):
     if word == "rand":
         if least > most:
             refuse(at, size, "falling", "write", text=f"rand({most}, {least})")
-        return Piece(at, size, found[0], lambda random: str(drawn(random, least, most)))
+        return Piece(at, size, found[0], lambda random, _: str(drawn(random, least, most)))
     if not 1 <= count <= MOST_DELAYS:
         refuse(at, size, "many_draws", "no_more_draws", count=count, most=MOST_DELAYS)
     ranges = [(0, min(most, least << min(number, 64), MAX_WHOLE)) for number in range(count)]
-    return Piece(at, size, found[0], lambda random: _one_after_another([_delay(drawn(random, *it)) for it in ranges]))
+    return Piece(at, size, found[0], lambda *draw: _filled((_delay("%d"),) * count, ranges, *draw))
 
 
 def _milliseconds(at, size, text):
@@ -279,8 +291,7 @@ def _spelled(at, size, make, retries, help=""):
 
 
 def _of_file(text, called):
-    """The policy that a text names, as @FILE#NAME: its name, its schedule with its jitter, the limit of an attempt, and
-    what it leaves out."""
+    """The policy of a text @FILE#NAME: name, schedule with jitter, the limit of an attempt, what is left out."""
     from zsched_tools.policy import command
     path, _, name = text[1:].partition("#")
     if not path:
@@ -305,8 +316,7 @@ def _of_file(text, called):
 
 @functools.cache
 def waits_of(zsched, schedule):
-    """The first waits of a schedule by the program, at most MOST_WAITS, and whether it ends after them. FaultAt has a
-    fault of the schedule."""
+    """At most MOST_WAITS first waits of a schedule by the program, and whether these are all. FaultAt has a fault."""
     script = [(1, "err", 0)] * MOST_WAITS + [(1, "ok", 0)]
     plan = plan_of(LAST_MOMENT, "retry", [("job", schedule, script)])
     status, report, errors = program.report_of(zsched, plan.encode(), 1)
@@ -318,33 +328,39 @@ def waits_of(zsched, schedule):
     return waits_in(report), b"\nend failed" in report
 
 
-def _jittered(zsched, inner, at, ends, random):
-    """The schedule of an inner policy, whose place is `at`, with waits that are drawn between two parts of each."""
+def _jittered(zsched, inner, at, ends):
+    """The schedule of an inner policy, whose place is `at`, with a place for each wait that is drawn between two parts
+    of it, and the least and the greatest of each draw."""
     try:
         waits, is_all = waits_of(zsched, inner.spelled)
     except FaultAt as fault:
-        cause = inner.cause_at(random, fault.cause)
+        cause = inner.cause_at(HIGH, fault.cause)
         raise FaultAt(cause._replace(at=at + cause.at)) from None
     is_endless = not is_all and not re.search("recurs|whileOutput", inner.spelled)
     room = MOST_DELAYS if is_all and len(waits) <= MOST_DELAYS else MOST_DELAYS - 1
     if len(set(waits[room:])) > 1 or (len(waits) == MOST_WAITS and not is_endless):
         refuse(at, len(inner.text), "many_waits", "fewer", most=MOST_DELAYS)
+    tail = [] if is_all and not waits[room:] else [_delay("%d", len(waits) - room) if is_all else "spaced(%d)"]
+    terms = (_delay("%d"),) * len(waits[:room]) + (*tail,)
+    waits = waits[:room] + (waits[-1:] or [MAX_WHOLE]) * len(tail)
+    greatest = [min(floor(wait * ends[1]), MAX_WHOLE) for wait in waits]
+    ranges = [(min(ceil(wait * ends[0]), most), most) for wait, most in zip(waits, greatest)]
+    return terms or ("recurs(0)",), ranges
 
-    def draw(wait):
-        most = min(floor(wait * ends[1]), MAX_WHOLE)
-        return drawn(random, min(ceil(wait * ends[0]), most), most)
-    terms = [_delay(draw(wait)) for wait in waits[:room]]
-    if not is_all:
-        terms.append(f"spaced({draw(waits[-1] if waits else MAX_WHOLE)})")
-    elif waits[room:]:
-        terms.append(_delay(draw(waits[-1]), len(waits) - room))
-    return _one_after_another(terms or ["recurs(0)"])
+
+def _filled(terms, ranges, random, most):
+    """The first `most` terms (None: all), one after another, with a number of each range in their places."""
+    numbers = tuple([drawn(random, least, greatest) for least, greatest in ranges[:most]])
+    for _ in ranges[len(numbers):]:
+        drawn(random, 0, 0)
+    return _one_after_another(terms[:most]) % numbers
 
 
 def _delay(wait, count=1):
     return f"(recurs({count})&&spaced({wait}))"
 
 
+@functools.cache
 def _one_after_another(terms):
     """Terms joined by andThenEither, in halves, so that the depth grows with the logarithm of their number."""
     if len(terms) == 1:
@@ -354,8 +370,7 @@ def _one_after_another(terms):
 
 
 def check_schedule(tool, given):
-    """Reads the schedule of a log's jobs, which may have sugar, and runs the program to check it. Returns the
-    Policy."""
+    """Reads the schedule of a log's jobs, which may have sugar, and runs the program to check it. Returns it."""
     found = program.find(given.zsched)
     try:
         policy = Policy(given.schedule, found)

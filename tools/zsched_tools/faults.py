@@ -23,8 +23,7 @@ class Explained:
 
 
 class Plan:
-    """A plan's bytes as a text, and what the scan found so far. `no_utf8` is the place of the first byte that isn't
-    UTF-8, or None."""
+    """A plan's bytes as a text, and what the scan found so far. `no_utf8` is the first place that isn't UTF-8."""
 
     def __init__(self, data):
         self.data = data

@@ -66,7 +66,8 @@ def bash(parser):
                 "  local word=${COMP_WORDS[COMP_CWORD]} before=${COMP_WORDS[COMP_CWORD - 1]}",
                 '  local part="" it words files="" flags',
                 '  for it in "${COMP_WORDS[@]:1:COMP_CWORD-1}"; do',
-                f'    [ -n "$part" ] || [[ " {words} " != *" $it "* ]] || part=$it', "  done", '  case "$part $before" in']
+                f'    [ -n "$part" ] || [[ " {words} " != *" $it "* ]] || part=$it', "  done",
+                '  case "$part $before" in']
     found = {"files": "compgen -f", "folders": "compgen -d", "text": ":"}
     for part, one in _parsers(parser):
         for option in filter(_kind, _options(one)):
@@ -147,7 +148,8 @@ def _paragraphs(*texts):
     """The paragraphs of texts. One with columns or indented lines stays as it is."""
     for number, paragraph in enumerate(it for text in texts if text for it in text.strip("\n").split("\n\n")):
         is_fixed = re.search(r"^ |\S {2,}", paragraph, re.MULTILINE)
-        yield from [*([".PP"] if number else []), *([".nf", _roff(paragraph), ".fi"] if is_fixed else [_roff(paragraph)])]
+        yield from [*([".PP"] if number else []),
+                    *([".nf", _roff(paragraph), ".fi"] if is_fixed else [_roff(paragraph)])]
 
 
 def _listed(parser):

@@ -1,5 +1,5 @@
-"""The texts of faults, which docs/play.html has, and what the user may have meant: similar words, and names of ZIO that a
-plan spells differently."""
+"""The texts of faults, which docs/play.html has, and what the user may have meant: similar words, and names of ZIO that
+a plan spells differently."""
 import difflib
 import functools
 import json

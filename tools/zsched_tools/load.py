@@ -1,5 +1,4 @@
-"""The load of a report: what begins and ends in each step of time, and the attempts that run and the jobs that wait at
-its end."""
+"""The load of a report: what begins and ends in each step of time, and what runs and waits at its end."""
 import collections
 
 from zsched_tools.command import Refused
@@ -14,8 +13,7 @@ SECOND = 1000
 
 class Load:
     """What began and ended in each step of time. The counters have the attempts that began, succeeded and failed, and
-    the jobs that began and ended. A job begins with its first attempt. A job that is unfinished at the horizon doesn't
-    end."""
+    the jobs that began and ended. A job begins with its first attempt. One that is unfinished doesn't end."""
 
     def __init__(self, every):
         self.every = every

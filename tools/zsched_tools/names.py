@@ -6,14 +6,12 @@ _SIXTY_FOUR_BITS = 2**64 - 1
 
 
 def _mark(name):
-    """A number of 64 bits for a name: the same in this process and those that it forks, and rarely that of another
-    name."""
+    """A number of 64 bits for a name: the same in this process and those that it forks, rarely that of another."""
     return hash(name) & _SIXTY_FOUR_BITS
 
 
 class Names:
-    """A mark for each name that was added. A second pass over the same names compares those whose marks are repeated:
-    `repeats`, then `first_repeat`."""
+    """A mark for each name that was added. A second pass compares the names whose marks are repeated."""
 
     def __init__(self):
         self.buckets = [array("Q") for _ in range(_BUCKETS)]
@@ -44,7 +42,7 @@ class Names:
 
 
 def first_repeat(repeats, named):
-    """The first name that is repeated, with both places, or None. `named` yields all names again, each with its place."""
+    """The first name that is repeated, with both places, or None. `named` yields all names with their places."""
     places = {}
     for name, place in named:
         if _mark(name) in repeats:

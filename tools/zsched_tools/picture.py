@@ -313,8 +313,7 @@ def draw_row(layout, number, row):
 
 
 def legend(layout, rows):
-    """What the shapes mean: a drawing and its words, for each that the picture has. Returns the elements and their
-    height."""
+    """What the shapes mean: a drawing and its words, for each in the picture. Returns the elements and their height."""
     drawn = list(legend_entries(layout, rows))
     elements, left, height = [], float(MARGIN), 22
     for draw, words in drawn:
@@ -353,8 +352,7 @@ def legend_entries(layout, rows):
 
 
 def draw(rows, title, view=View(), is_file=True, notes=()):
-    """The picture of some jobs as SVG, in lines: for a file, or inside of a page. The notes are lines below its
-    title."""
+    """The picture of some jobs as SVG, in lines: for a file, or inside of a page. The notes are below its title."""
     head = 30 if title else 0
     layout = Layout(rows, head + 18 * len(notes), view)
     entries, height = legend(layout, rows)

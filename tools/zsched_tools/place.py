@@ -23,8 +23,7 @@ class FaultAt(Exception):
 
 
 def choose(at, *rows):
-    """The cause at a place by the first row that holds, or None. A row is a condition, a size, what is wrong, and a
-    help."""
+    """The cause at a place by the first row that holds, or None. A row: a condition, a size, what is wrong, a help."""
     return next((Cause(at, *rest) for is_so, *rest in rows if is_so), None)
 
 
@@ -75,7 +74,8 @@ def fault_lines(name, found, paint=unpainted):
     number, source, mark = excerpt(text, cause)
     gutter, bar = " " * len(str(number)), paint("faint", "|")
     row = paint("faint", str(number))
-    lines = [f"{gutter}{paint('faint', '-->')} {in_file(name, text, cause)}", f"{gutter} {bar}", f"{row} {bar} {source}",
+    lines = [f"{gutter}{paint('faint', '-->')} {in_file(name, text, cause)}", f"{gutter} {bar}",
+             f"{row} {bar} {source}",
              f"{gutter} {bar} {mark[:-len(mark.lstrip())]}{paint('bad', f'{mark.lstrip()} {cause.what}')}"]
     if cause.help:
         lines.append(f"{gutter} {paint('faint', '=')} {paint('help', 'help')}: {cause.help}")

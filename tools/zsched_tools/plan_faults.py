@@ -1,5 +1,5 @@
-"""What is wrong with a plan: with the document, its shape, its keys and its ranges; with a job, its shape, its keys, its
-mode, its name, its schedule and its script; with a value or a key of either."""
+"""What is wrong with a plan: with the document, its shape, its keys and its ranges; with a job, its shape, its keys,
+its mode, its name, its schedule and its script; with a value or a key of either."""
 import operator
 import re
 from fractions import Fraction

@@ -19,16 +19,16 @@ _COMPARE = {"<": operator.lt, "<=": operator.le, "=": operator.eq, "!=": operato
 
 
 class World(NamedTuple):
-    """What is known of a job except its schedule: its time, the least length of an attempt, and the value or the code of
-    each entry of its script."""
+    """What is known of a job except its schedule: its time, the least length of an attempt, and the value or the code
+    of each entry of its script."""
     time: int
     least: int
     values: list
 
 
 class Bound(NamedTuple):
-    """What is known of a schedule under a job: its most attempts, the least wait between two of them on average, and the
-    kind of its outputs: 'elapsed', 'count', 'input', a pair of these, or None."""
+    """What is known of a schedule under a job: its most attempts, the least wait between two of them on average, and
+    the kind of its outputs: 'elapsed', 'count', 'input', a pair of these, or None."""
     count: float
     wait: int
     out: object = None
@@ -50,12 +50,12 @@ def warning(plan, limit=MOST_ATTEMPTS, times=1):
 
 
 def workers_warning(plan):
-    """The warning for the bytes of a plan with several workers and batches that take less than their threads, else None."""
+    """The warning for a plan's bytes with several workers and batches that take less than their threads, else None."""
     grain = _found(plan, _lacking_grain) if b"workers" in plan else None
     if grain is None:
         return None
-    return (f"its workers take longer than one, since threads start at each moment: leave \"workers\" out, or, if thousands "
-            f"of jobs are due at a moment, write a grain of {grain} or more")
+    return ("its workers take longer than one, since threads start at each moment: leave \"workers\" out, or, if "
+            f"thousands of jobs are due at a moment, write a grain of {grain} or more")
 
 
 def _found(plan, search):

@@ -77,8 +77,8 @@ class Node:
         return int(source) if _DIGITS.fullmatch(source) and int(source) <= MAX_WHOLE else None
 
     def items(self, passing=None):
-        """The items of a list. Items that are in a run of the pattern `passing` are skipped. A pattern matches any number
-        of items, each with the comma after it."""
+        """The items of a list. Items that are in a run of the pattern `passing` are skipped. A pattern matches any
+        number of items, each with the comma after it."""
         return (Node(self.document, at) for at in self._parts(passing))
 
     def members(self):

@@ -10,7 +10,8 @@ import tempfile
 
 from zsched_tools.command import Refused, naming
 
-# The limits of a plan: its bytes, its jobs, the entries of a script, of which the last one repeats, and its last moment.
+# The limits of a plan: its bytes, its jobs, the entries of a script, of which the last one repeats, and its last
+# moment.
 MAX_BYTES, MOST_JOBS, MOST_ENTRIES, LAST_MOMENT = 16_777_216, 10_000, 1000, 999_999_999_999_999
 _HERE = pathlib.Path(__file__).resolve()
 CRATES = _HERE.parents[2] / "crates"
@@ -23,8 +24,8 @@ class NoProgram(Refused):
 
 
 def find(named=None):
-    """The program's path: the given one, else that of the variable ZSCHED, else the one that this tree built, else the one
-    that was installed with these tools, else the one on PATH."""
+    """The program's path: the given one, else that of the variable ZSCHED, else the one that this tree built, else the
+    one that was installed with these tools, else the one on PATH."""
     found = find_beside("zsched", named)
     if found is None:
         unproved = sorted((CRATES / "zsched" / "out").glob("unproved-*"))
@@ -35,8 +36,7 @@ def find(named=None):
 
 
 def find_beside(name, named=None):
-    """The path of another program, zsched-population or zsched-bounds, or None. The search is that for zsched, with a
-    variable such as ZSCHED_POPULATION."""
+    """The path of another program, such as zsched-bounds, or None, found as zsched is, by ZSCHED_BOUNDS."""
     for place in [named, os.environ.get(name.upper().replace("-", "_"))]:
         if place:
             if not os.access(place, os.X_OK) or os.path.isdir(place):
@@ -87,7 +87,8 @@ def run(program, given, seconds=None, options=()):
         read.write(given)
         read.seek(0)
         with starting(program):
-            ended = subprocess.run([program, *options], stdin=read, stdout=written, stderr=subprocess.PIPE, timeout=seconds,
+            ended = subprocess.run([program, *options], stdin=read, stdout=written, stderr=subprocess.PIPE,
+                                   timeout=seconds,
                                    check=False)
         written.seek(0)
         return ended.returncode, written.read(), ended.stderr

@@ -1,8 +1,8 @@
 """Reads a report line by line into records. It rejects a text that isn't a whole report, with the line's number.
 
-docs/FORMATS.md has the form of a report. The reader checks the form of each line, and compares the lines with each other:
-attempts are numbered from 1 and don't overlap, there is a step exactly if the schedule was stepped, an ending is that
-of the last attempt, and the polls are the moments at which attempts began or ended. Numbers are whole and go up to
+docs/FORMATS.md has the form of a report. The reader checks the form of each line, and compares the lines with each
+other: attempts are numbered from 1 and don't overlap, there is a step exactly if the schedule was stepped, an ending is
+that of the last attempt, and the polls are the moments at which attempts began or ended. Numbers are whole and go up to
 2^64 - 1; the total of the last line has no bound, since a joined report may have any number of jobs.
 
 Reports that a tool has just got from the program are cut into jobs by `blocks_of`, and aren't checked again."""
@@ -38,8 +38,8 @@ class Job:
 @dataclasses.dataclass(slots=True)
 class Attempt:
     """An attempt with its step. One that runs at the horizon has no end and no value; `out` is None if the schedule
-    wasn't stepped, and `next` if it wasn't stepped or is done; `waited` is the time since the end of the attempt before,
-    and None for the first."""
+    wasn't stepped, and `next` if it wasn't stepped or is done; `waited` is the time since the end of the attempt
+    before, and None for the first."""
     number: int
     begin: int
     end: int | None
@@ -71,8 +71,7 @@ class Total:
 
 
 def is_output(text):
-    """Whether a text is an output of a schedule: its innermost pairs, sides and lists are replaced until only a number
-    remains."""
+    """Whether a text is an output of a schedule: inner pairs, sides and lists are replaced until a number remains."""
     if len(text) < 20 and _SHORT_OUTPUT.fullmatch(text):
         return True
     if any(int(digits) > MOST for digits in _TWENTY_DIGITS.findall(text)):
@@ -300,7 +299,6 @@ def attempts_in(block):
 
 
 def ending_in(block):
-    """How a job's bytes end: the word, the value or the output as a text (empty if there is neither), and the moment; or
-    None."""
+    """How a job's bytes end: the word, the value or the output as a text (or empty), and the moment; or None."""
     found = _END.search(block, max(0, block.rfind(b"\nend ")))
     return found and (found[1].decode(), (found[2] or b"").decode(), int(found[3]))

@@ -1,4 +1,4 @@
-"""Why a schedule without faults of spelling is rejected: it is too big, a factor or a window is 0, or it has no kind."""
+"""Why a schedule without faults of spelling is rejected: it is too big, has no kind, or a factor or a window is 0."""
 from typing import NamedTuple
 
 from zsched_tools import schedule_text
@@ -82,8 +82,8 @@ def _zero(text, word, place, what, help):
 
 
 def _too_big(text):
-    """The cause at the first piece at which the schedule exceeds its limits, or None. The parts so far are in a list, as
-    pairs of depth and weight; each open parenthesis adds one level and one part."""
+    """The cause at the first piece at which the schedule exceeds its limits, or None. The parts so far are in a list,
+    as pairs of depth and weight; each open parenthesis adds one level and one part."""
     parts, opened = [], 0
     for piece in pieces(text):
         if piece.word in OPERATORS:

@@ -1,5 +1,4 @@
-"""Why a text is not a schedule, in words. The program reports the place; the tokens before it determine what is expected
-there."""
+"""Why a text is not a schedule, in words. The program reports the place; the tokens before it say what is expected."""
 import re
 import unicodedata
 from fractions import Fraction
@@ -93,8 +92,8 @@ def expectation(before):
 
 
 def innermost(before):
-    """The innermost pair of parentheses that is still open, around whole schedules: its token and its operator, each None
-    if it is missing."""
+    """The innermost pair of parentheses that is still open, around whole schedules: its token and its operator, each
+    None if it is missing."""
     depth, operator = 0, None
     for token in reversed(before):
         depth += (token[0] == ")") - (token[0] == "(")

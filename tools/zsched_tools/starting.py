@@ -1,4 +1,4 @@
-"""How a tool starts and ends: the Python that it needs, its exit status, Ctrl-C, and a reader of its output that closes it.
+"""How a tool starts and ends: the Python that it needs, its exit status, Ctrl-C, and an output that is closed.
 
 A Python older than the tools need must be able to read this file."""
 import contextlib

@@ -154,7 +154,7 @@ def draw_strip(load, title, note=None, view=View(), width=None):
 
 
 class Crowd:
-    """The jobs of a report that are drawn: the rows of at most MOST_JOBS jobs, the number of all jobs, and their load."""
+    """The jobs of a report that are drawn: the rows of at most MOST_JOBS jobs, the number of all, and their load."""
 
     def __init__(self, chosen):
         self.chosen, self.missing = frozenset(chosen), set(chosen)
@@ -196,4 +196,5 @@ def draw_crowd(crowd, title, view=View(), notes=()):
 
 def note_of(crowd):
     """The line above the load of jobs that are too many for rows."""
-    return (f"{plural(crowd.jobs, 'job')}; a picture has room for the rows of {picture.MOST_JOBS}: choose some with --job NAME")
+    room = f"a picture has room for the rows of {picture.MOST_JOBS}"
+    return f"{plural(crowd.jobs, 'job')}; {room}: choose some with --job NAME"

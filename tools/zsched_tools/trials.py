@@ -39,8 +39,8 @@ def plan_of(horizon, mode, jobs):
 
 @dataclass
 class Tried:
-    """The result of a policy in a report: its ending with the value, its end, its attempts, the sum of its waits and the
-    longest. An attempt or a wait that continues at the horizon counts up to it."""
+    """The result of a policy in a report: its ending with the value, its end, its attempts, the sum of its waits and
+    the longest. An attempt or a wait that continues at the horizon counts up to it."""
     how: str
     result: str
     at: int

@@ -131,7 +131,7 @@ def fewer(data):
 
 
 def _first_ones(jobs):
-    """The numbers of the jobs that differ from every earlier one. A job whose name may have a fault differs from all."""
+    """The numbers of the jobs that differ from every earlier one. A job with a faulty name differs from all."""
     named = [_name_of(job) for job in jobs]
     many = collections.Counter(name.string() for name in named if name)
     seen, found = set(), []

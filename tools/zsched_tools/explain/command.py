@@ -116,9 +116,9 @@ class Look(threading.Thread):
 
 
 def refusal(zsched, look, seconds=None, data=None):
-    """Runs the program on a plan's bytes, or on `data` with the same faults, and starts the scan. Returns the status and
-    the line on standard error. After `seconds` subprocess.TimeoutExpired is raised. If it takes longer than PATIENCE,
-    a plan with one of each group of alike jobs runs first."""
+    """Runs the program on a plan's bytes, or on `data` with the same faults, and starts the scan. Returns the status
+    and the line on standard error. After `seconds` subprocess.TimeoutExpired is raised. If it takes longer than
+    PATIENCE, a plan with one of each group of alike jobs runs first."""
     data = look.data if data is None else data
     look.start()
     try:

@@ -5,6 +5,7 @@ The help says how jobs show them. A script has at most 1,000 entries, and the la
 request end with (S && recurs(n)), or have a clock whose moments are the ends of its attempts."""
 import functools
 import json
+import math
 import re
 import sys
 from typing import NamedTuple
@@ -111,7 +112,7 @@ def compared(calls, ends, mode, tolerance, zsched):
     by_name = by_request(calls)
     requests = {name: _attempts(found) for name, found in by_name.items()}
     latest = max((call.begin + (call.length or 0) for call in calls), default=0)
-    *schedules, is_less = ends
+    *schedules, is_less, is_cut = ends
     waits = {it: Decisions(it, mode, zsched, requests).waits for it in schedules}
     least, most = (waits[it] for it in schedules)
     differences = []
@@ -119,7 +120,9 @@ def compared(calls, ends, mode, tolerance, zsched):
     def wait_after(name, number):
         """The least and the greatest wait after an attempt, or None."""
         wait = most.get((name, number))
-        return wait if wait is None else (0 if is_less else least[name, number], wait)
+        if wait is None:
+            return (0, math.inf) if is_cut else None
+        return 0 if is_less else least[name, number], wait
     for name, found in requests.items():
         end = in_ms(latest - by_name[name][0].begin)
         differences += _differences(name, found, mode, functools.partial(wait_after, name), tolerance, end)

@@ -1,8 +1,8 @@
 """The certificate of a simulated policy: the program's report of its plan, compared with the scenario.
 
-Each ending and number of attempts must be the simulated one. Each attempt of the report must end as the scenario says for
-the moment at which it begins in the report; that outcome is computed again from the report. Clients whose scripts a plan
-has no room for are in no report, and count as they were simulated."""
+Each ending and number of attempts must be the simulated one. Each attempt of the report must end as the scenario says
+for the moment at which it begins in the report; that outcome is computed again from the report. Clients whose scripts a
+plan has no room for are in no report, and count as they were simulated."""
 from array import array
 from dataclasses import dataclass
 
@@ -42,8 +42,8 @@ def clients_in(report):
 
 
 def certified(scenario, simulated, reports, others=()):
-    """The clients, those in the reports of a plan's parts and the runs of the others, by their numbers. Uncertified says
-    how they differ from the simulated endings, or from the scenario."""
+    """The clients, those in the reports of a plan's parts and the runs of the others, by their numbers. Uncertified
+    says how they differ from the simulated endings, or from the scenario."""
     others = dict(others)
     found = [client for report in reports for client in clients_in(report)] if len(others) < len(simulated) else []
     if len(found) + len(others) != len(simulated):

@@ -11,7 +11,7 @@ from zsched_tools.outage.certificate import Uncertified, certified
 from zsched_tools.outage.curve import Figures, headline, policy_lines, table, to_json
 from zsched_tools.outage.panels import curve_page, draw_curves
 from zsched_tools.outage.scenario import DOWN, in_text, read_scenario
-from zsched_tools.outage.search import Search, Unsettled, name_of, schedules_of
+from zsched_tools.outage.search import FIRST_LOOK, Search, Unsettled, name_of, schedules_of
 from zsched_tools.place import FaultAt, in_file, tell
 from zsched_tools.plan.split import write_parts
 from zsched_tools.program import MOST_JOBS, cut_plans
@@ -62,16 +62,16 @@ budget     a bucket of tokens for retries that all clients of a policy share. It
            A client that may not retry fails with the code "err" (0).
 policies   schedules by name, or other texts that zsched-try takes, as "(exponential(100) && recurs(9)) jitter full" and
            "@service.yaml#checkout". rand(LO, HI) is a number drawn once for each client. jitter(BASE, CAP, N) is a
-           schedule of N delays, the k-th drawn from 0 to the smaller of CAP and BASE * 2^(k - 1). The same seed gives the
-           same bytes. If a config limits its attempts, a longer one fails then, as if the service were down.
+           schedule of N delays, the k-th drawn from 0 to the smaller of CAP and BASE * 2^(k - 1). The same seed gives
+           the same bytes. If a config limits its attempts, a longer one fails then, as if the service were down.
 
-How a run is simulated: the proved program first runs all clients as if the service served no attempt. The moment at which
-an attempt begins sets its outcome. The program runs the clients again until no outcome changes. Only the program steps
-schedules. At one millisecond, attempts end before others begin, and clients are in the order of their numbers. The last
-run is the certificate: every ending, number of attempts and outcome in it must be the simulated one.
+How a run is simulated: the proved program first runs all clients as if the service served no attempt. The moment at
+which an attempt begins sets its outcome. The program runs the clients again until no outcome changes. Only the program
+steps schedules. At one millisecond, attempts end before others begin, and clients are in the order of their numbers.
+The last run is the certificate: every ending, number of attempts and outcome in it must be the simulated one.
 
-A plan has no room for a client of more than 1,000 attempts of which those from the 1,000th on end in different ways. It is
-simulated as if each of these ended as the 1,000th, until it is served. It is in no plan and in no report, and isn't
+A plan has no room for a client of more than 1,000 attempts of which those from the 1,000th on end in different ways. It
+is simulated as if each of these ended as the 1,000th, until it is served. It is in no plan and in no report, and isn't
 certified. The table has the share of the clients that is certified, and below it are the names of some others.
 
 A peak is the most attempts that begin within 100 ms, within a second from any moment, and within a second of the clock.
@@ -100,22 +100,23 @@ def _check_policies(scenario, zsched):
             raise FaultAt(in_text(node, fault.cause)) from None
 
 
-def _settled(scenario, zsched, name, most_passes, say):
-    """The jobs of the plan of a policy, the simulated endings, the runs of the clients that have no job, and the number
-    of passes."""
-    search = Search(scenario, zsched, schedules_of(scenario, name), most_passes)
+def _settled(search, say):
+    """The jobs of the plan of a policy, the simulated endings, and the runs of the clients that have no job."""
     walk = search.settle(say)
     jobs = list(search.final_jobs(walk))
     others = {number: search.runs[number] for number, job in enumerate(jobs) if job is None}
-    return list(filter(None, jobs)), walk.endings, others, search.passes
+    return list(filter(None, jobs)), walk.endings, others
 
 
 def simulate(scenario, zsched, name, most_passes, say):
-    """The run of one policy: its jobs, plans, the most jobs of a plan, reports and figures. `say` is called at each step
-    with the share that is done and a line. It raises Unsettled or Uncertified."""
+    """The run of one policy: its jobs, plans, the most jobs of a plan, reports and figures. `say` is called at each
+    step with the share that is done and a line. It raises Unsettled or Uncertified."""
     scenario = scenario.limited(scenario.policies[name][0].timeout)
+    schedules, firsts = (schedules_of(scenario, name, most) for most in [None, FIRST_LOOK])
+    warn_of_parts(name, schedules)
     try:
-        jobs, endings, others, passes = _settled(scenario, zsched, name, most_passes, say)
+        search = Search(scenario, zsched, schedules, most_passes, firsts)
+        jobs, endings, others = _settled(search, say)
         plans, most = cut_plans(scenario.horizon, jobs)
         say(1, "the certificate")
         reports = [program.run_plan(zsched, plan) for plan in plans]
@@ -123,7 +124,7 @@ def simulate(scenario, zsched, name, most_passes, say):
     except (Unsettled, Uncertified) as failed:
         raise type(failed)(f"policy {name}: {failed}") from None
     text = scenario.policies[name][0].source
-    return jobs, plans, most, reports, Figures(scenario, text, clients, list(map(name_of, others)), passes + 1)
+    return jobs, plans, most, reports, Figures(scenario, text, clients, list(map(name_of, others)), search.passes + 1)
 
 
 def _joined(reports):
@@ -149,8 +150,7 @@ def write_files(folder, name, horizon, found):
 
 
 def warn_of_attempts(scenario, name, color):
-    """Warns, before a policy runs, if its attempts may be many: those of the least waits until the service is up for
-    good."""
+    """Warns, before a policy runs, if its attempts may be many: those of the least waits until it is up for good."""
     policy, starts = scenario.policies[name][0], scenario.starts
     end = max((it.end for it in scenario.windows if it.state or it.capacity is not None), default=0)
     time = max(0, min(scenario.horizon, end) - min(starts))
@@ -159,12 +159,13 @@ def warn_of_attempts(scenario, name, color):
     plan_size.warn(TOOL, many and f"policy {name}: {many}", color)
 
 
-def warn_of_parts(scenario, name):
+def warn_of_parts(name, schedules):
     """Warns, before a policy runs, if its jobs exceed one plan; it checks only the schedules of the clients."""
-    count, size = len(scenario.starts), sum(map(len, schedules_of(scenario, name)))
+    count, size = len(schedules), sum(map(len, schedules))
     if count > MOST_JOBS or size > program.MAX_BYTES:
         print(f"{TOOL}: policy {name}: {count:,} jobs with schedules of {size:,} bytes are more than one plan of "
-              f"{MOST_JOBS:,} jobs and {program.MAX_BYTES:,} bytes: it is written as JSON lines and parts", file=sys.stderr)
+              f"{MOST_JOBS:,} jobs and {program.MAX_BYTES:,} bytes: it is written as JSON lines and parts",
+              file=sys.stderr)
 
 
 def _all(given, scenario, zsched):
@@ -176,12 +177,14 @@ def _all(given, scenario, zsched):
                 done = 100 * (len(figures) + 0.9 * share) / len(scenario.policies)
                 progress.say(f"{done:.0f} %: {name}: {what}")
             warn_of_attempts(scenario, name, given.color)
-            warn_of_parts(scenario, name)
             found = simulate(scenario, zsched, name, given.passes, say)
             if folder is not None:
                 say(1, "files")
                 write_files(folder, name, scenario.horizon, found)
             figures[name] = found[-1]
+            if scenario.policies[name][0].is_cut and figures[name].gave_up > figures[name].denied:
+                print(f"{TOOL}: policy {name}: clients that gave up came to the end of a schedule that leaves out later "
+                      "waits", file=sys.stderr)
     if given.svg:
         command.write(given.svg, "".join(f"{line}\n" for line in draw_curves(scenario, figures)))
     if given.html:
@@ -207,7 +210,8 @@ def _exceeded(given, figures):
         if peak is not None and peak[0] > most:
             yield f"{peak[0]:,} attempts in {duration(span)}, from {duration(peak[1])} on, over --max-peak {most:,}"
     if given.max_recovery is not None and (figures.recovery is None or figures.recovery > given.max_recovery):
-        found = "not recovered at the horizon" if figures.recovery is None else f"recovered in {duration(figures.recovery)}"
+        time = figures.recovery
+        found = "not recovered at the horizon" if time is None else f"recovered in {duration(time)}"
         yield f"{found}, over --max-recovery {duration(given.max_recovery)}"
     if given.max_gave_up is not None and figures.gave_up > given.max_gave_up:
         yield f"{plural(figures.gave_up, 'client')} gave up, over --max-gave-up {given.max_gave_up:,}"

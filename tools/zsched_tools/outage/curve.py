@@ -14,8 +14,7 @@ MOST_NAMED = 10
 
 
 class Curve:
-    """Of each second the attempts that begin in it, those that end in it well (ok) or not (err), and those that run
-    when it ends."""
+    """Of each second the attempts that begin, that end well (ok) or not (err), and that run at its end."""
 
     def __init__(self, clients):
         self.begun, self.ok, self.err, self.begins = Counter(), Counter(), Counter(), Counter()
@@ -40,8 +39,8 @@ class Curve:
         return "".join(f"{line}\n" for line in [CSV_HEAD, *(",".join(map(str, row)) for row in self.rows())])
 
     def peak(self, span, since=0):
-        """The most attempts, of those from a moment on, that begin within a time, and the first begin of such a time; None
-        without attempts. Without a span it is a second of the clock."""
+        """The most attempts, of those from a moment on, that begin within a time, and the first begin of such a time;
+        None without attempts. Without a span it is a second of the clock."""
         if span is None:
             found = [(count, -second * THOUSAND) for second, count in self.begun.items() if second * THOUSAND >= since]
             return (max(found)[0], -max(found)[1]) if found else None
@@ -63,8 +62,7 @@ def share_of(ordered, percent):
 
 
 class Figures:
-    """The figures of a policy, for one column of the table. `uncertified` has the names of the clients that are in no
-    report."""
+    """The figures of a policy, for one column of the table. `uncertified` has the names of those in no report."""
 
     def __init__(self, scenario, text, clients, uncertified, passes):
         self.text, self.curve = text, Curve(clients)
@@ -74,7 +72,8 @@ class Figures:
         self.mean = round(10 * self.attempts / len(clients)) / 10
         self.times = sorted(client.ending.at - start for client, start in zip(clients, scenario.starts)
                             if client.ending.how == "succeeded")
-        self.last_success = max((client.ending.at for client in clients if client.ending.how == "succeeded"), default=None)
+        self.last_success = max((client.ending.at for client in clients if client.ending.how == "succeeded"),
+                                default=None)
         endings = Counter(client.ending.how for client in clients)
         self.gave_up, self.unfinished = endings["failed"], endings["unfinished"]
         self.denied = sum(scenario.budget is not None and client.ending.how == "failed"
@@ -105,7 +104,8 @@ class Figures:
             return {name: peak and {"attempts": peak[0], "from_ms": peak[1]} for (name, *_), peak in zip(SPANS, found)}
         return {
             "name": name, "schedule": self.text, "attempts": self.attempts, "attempts_mean": self.mean,
-            "attempts_greatest": self.greatest, "peak": peaks(self.peaks), "peak_after": peaks(self.peaks_after) or None,
+            "attempts_greatest": self.greatest, "peak": peaks(self.peaks),
+            "peak_after": peaks(self.peaks_after) or None,
             "time_to_success_ms": dict(zip([f"p{percent}" for percent in SHARES] + ["greatest"], self.shares())),
             "succeeded": len(self.times), "last_success_ms": self.last_success, "recovery_ms": self.recovery,
             "gave_up": self.gave_up, "out_of_budget": self.denied, "unfinished": self.unfinished,

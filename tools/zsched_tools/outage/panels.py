@@ -1,8 +1,7 @@
 """The load of policies as a picture: a panel a policy, all with one time axis and one height for the same load. The
 windows of the service are shaded. An outcome is shown by its colour and by its place: ok is above err.
 
-A page has the picture in two widths, of which it shows the one that fits, and the table. It is one file that loads nothing
-from elsewhere."""
+A page has the picture in two widths, of which it shows the one that fits, and the table, in one file."""
 import html
 
 from zsched_tools.drawing import Scale, cut_text, labels, opening, path, place, rectangle, steps_to, text, text_width

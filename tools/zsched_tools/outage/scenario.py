@@ -219,8 +219,7 @@ class _Reading:
             self.scenario.coming = f"within {duration(time)}" if time else "all at once"
 
     def _outcomes(self, node):
-        """How an attempt ends in each state of the service. A full service returns the outcome of one that is down,
-        unless "full" is given."""
+        """How an attempt ends in each state of the service. A full one is as one that is down, without "full"."""
         parts = {} if node is None else _members(node, "outcomes", STATES, [])
         found = [self._outcome(parts[name], name) if name in parts else default
                  for name, default in zip(STATES, DEFAULTS)]

@@ -1,8 +1,8 @@
 """The run of all clients of a policy in a scenario, found by running the program alone until no outcome changes, as the
 help of zsched-outage says: `Walk` computes how each client ends, and `certificate` compares the last report.
 
-A script has at most 1,000 entries, and the last one repeats. A client of more attempts is run so, and only up to a moment.
-It can be certified if all its attempts from the 1,000th on end alike."""
+A script has at most 1,000 entries, and the last one repeats. A client of more attempts is run so, and only up to a
+moment. It can be certified if all its attempts from the 1,000th on end alike."""
 import random
 from array import array
 
@@ -28,15 +28,15 @@ def name_of(client):
     return f"c{client}"
 
 
-def schedules_of(scenario, name):
+def schedules_of(scenario, name, most=None):
     """The schedule of each client under a policy, whose draws come from the seed and the policy's name. With a budget a
-    schedule also ends at the budget's code."""
+    schedule also ends at the budget's code. With `most` it may have only so many drawn waits."""
     policy, _ = scenario.policies[name]
     source = random.Random(f"{scenario.seed} {name}")
     after = f".whileInput(!= {scenario.budget.code})" if scenario.budget else ""
     if not policy.is_drawn:
         return [policy.spelled + after] * len(scenario.starts)
-    return [policy.schedule(source) + after for _ in scenario.starts]
+    return [policy.schedule(source, most) + after for _ in scenario.starts]
 
 
 def _runs_in(report, kinds, unfinished):
@@ -54,17 +54,16 @@ def shortest(kinds):
 
 
 class Search:
-    """The search for the run of all clients of one policy."""
+    """The search for the run of all clients of one policy. `firsts` are schedules for the first look."""
 
-    def __init__(self, scenario, zsched, schedules, most_passes):
+    def __init__(self, scenario, zsched, schedules, most_passes, firsts=None):
         self.scenario, self.zsched, self.most_passes = scenario, zsched, most_passes
-        self.schedules, self.runs = schedules, [None] * len(schedules)
+        self.firsts, self.schedules, self.runs = firsts or schedules, schedules, [None] * len(schedules)
         self.scripts = {}
         self.passes = self.until = 0
 
     def settle(self, say):
-        """The walk over the settled runs. `say` is called at each step, with the share of the clients that are settled
-        and a line."""
+        """The walk over the settled runs. `say` gets at each step the share of settled clients and a line."""
         are_open, guesses = range(len(self.runs)), [b""] * len(self.runs)
         while self.passes < self.most_passes:
             self.passes += 1
@@ -107,7 +106,8 @@ class Search:
         if not looked:
             return
         clients, kinds = list(looked), list(looked.values())
-        jobs = [self._job(client, self._script(of_client if last else shortest(of_client)) + last)
+        schedules = self.firsts if self.passes == 1 else self.schedules
+        jobs = [self._job(client, schedules, self._script(of_client if last else shortest(of_client)) + last)
                 for client, of_client in looked.items()]
         plans, most = cut_plans(until, jobs, most)
         tail = CUT if until < self.scenario.horizon else GOES_ON
@@ -116,8 +116,8 @@ class Search:
             for client, run in zip(clients[part], _runs_in(run_plan(self.zsched, plan), kinds[part], tail)):
                 self.runs[client] = run
 
-    def _job(self, client, entries):
-        return job_text(name_of(client), self.schedules[client], entries, start=self.scenario.starts[client])
+    def _job(self, client, schedules, entries):
+        return job_text(name_of(client), schedules[client], entries, start=self.scenario.starts[client])
 
     def _script(self, kinds):
         if kinds not in self.scripts:
@@ -127,9 +127,8 @@ class Search:
         return self.scripts[kinds]
 
     def final_jobs(self, walk):
-        """The jobs of the plan in which each attempt has the computed outcome; None for a client whose script has no room
-        for that."""
+        """The jobs of the plan with all computed outcomes; None for a client whose script has no room for them."""
         alike = bytes(kind if kind & DENIED else first for kind, first in enumerate(walk.outcomes))
         for client, found in enumerate(walk.found):
             kinds = shortest(bytes(found).translate(alike) or b"\0")
-            yield self._job(client, self._script(kinds)) if len(kinds) <= MOST_ENTRIES else None
+            yield self._job(client, self.schedules, self._script(kinds)) if len(kinds) <= MOST_ENTRIES else None

@@ -1,8 +1,9 @@
 """The outcome of each client's attempts, by the moment at which an attempt begins.
 
 `Walk` processes the attempts of all clients in the order of their moments and computes how each ends. It steps no
-schedule: the program computed when a client's attempts begin, in a run in which the client is never served. All attempts
-of such a run up to the first one that is served are those of the true run, since they depend only on earlier attempts."""
+schedule: the program computed when a client's attempts begin, in a run in which the client is never served. All
+attempts of such a run up to the first one that is served are those of the true run, since they depend only on earlier
+attempts."""
 import heapq
 from array import array
 from dataclasses import dataclass
@@ -11,8 +12,8 @@ from typing import NamedTuple
 from zsched_tools.outage.scenario import FULL, UP, Window
 from zsched_tools.program import LAST_MOMENT, MOST_ENTRIES
 
-# An attempt's kind is the state of the service when it begins. DENIED is added to the kind of an attempt after which the
-# budget rejects the retry.
+# An attempt's kind is the state of the service when it begins. DENIED is added to the kind of an attempt after which
+# the budget rejects the retry.
 DENIED = 8
 UNDENIED = bytes(kind & ~DENIED for kind in range(256))
 # How the run of a client ends: its schedule is done, it continues after the horizon, or the run was cut.
@@ -91,8 +92,8 @@ class Bucket:
 
 
 class Walk:
-    """All attempts of all clients, in the order of their moments. At one moment ends are before begins, and clients
-    are in the order of their numbers. `found` has the kinds of each client's attempts, `endings` its ending (None if its
+    """All attempts of all clients, in the order of their moments. At one moment ends are before begins, and clients are
+    in the order of their numbers. `found` has the kinds of each client's attempts, `endings` its ending (None if its
     run ends first)."""
 
     def __init__(self, scenario, runs):
@@ -158,8 +159,7 @@ class Walk:
 
     def is_settled(self, client):
         """Whether the client's run was the true one up to its end: each attempt before that, or each that a script has
-        room for, failed as it was run. If the last attempt is served, or still runs at the horizon, its kind doesn't
-        matter."""
+        room for, failed as it was run. If the last attempt is served, or runs at the horizon, any kind will do."""
         ending, kinds, run = self.endings[client], self.found[client], self.runs[client]
         if ending is None:
             return False

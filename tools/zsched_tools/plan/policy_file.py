@@ -2,13 +2,13 @@
 
 PyYAML gives the place of each value. Python's reader of TOML doesn't: this module
 searches the lines for headers and keys. A value that isn't found has the place of its parent."""
+import functools
 import re
 import tomllib
 
-from zsched_tools.place import Cause, FaultAt, line_of
+from zsched_tools.place import Cause, FaultAt
 from zsched_tools.plan.placed import DEEPEST, Raw, Value, key
-from zsched_tools.policy.reading import yaml_module
-from zsched_tools.words import shown
+from zsched_tools.policy.reading import documents
 
 # More than the longest plan has. An alias in a list of aliases may represent any number of values.
 MOST_VALUES = 5_000_000
@@ -28,65 +28,22 @@ def _scalar(data, at, text):
 
 
 def read_yaml(text):
-    yaml, loader = yaml_module(), None
-    try:
-        loader = yaml.SafeLoader(text)
-        node = loader.get_single_node()
-        if node is None:
-            raise FaultAt(Cause(0, 0, "the file is empty"))
-        return _Yaml(yaml, loader, text).value(node, 0)
-    except RecursionError:
-        raise FaultAt(Cause(0, 0, NESTED)) from None
-    except yaml.MarkedYAMLError as fault:
-        mark = fault.problem_mark or fault.context_mark
-        raise FaultAt(Cause(min(mark.index, len(text)), 1, f"not YAML: {fault.problem}")) from None
-    except yaml.reader.ReaderError as fault:
-        raise FaultAt(Cause(fault.position, 1, f"not YAML: {fault.reason}")) from None
-    finally:
-        if loader is not None:
-            loader.dispose()
+    found = documents(text, functools.partial(_of_yaml, text), DEEPEST, MOST_VALUES)
+    if len(found) != 1:
+        what = "a plan is one document, and this is another one" if found else "the file is empty"
+        raise FaultAt(Cause(found[1].at, 1, what) if found else Cause(0, 0, what))
+    return found[0]
 
 
-class _Yaml:
-    """Values from the nodes of a document."""
-
-    def __init__(self, yaml, loader, text):
-        self.yaml, self.loader, self.text = yaml, loader, text
-        self.count = 0
-
-    def value(self, node, depth):
-        """The value of a node. An alias has the places of its anchor."""
-        at = node.start_mark.index
-        if depth == DEEPEST:
-            raise FaultAt(Cause(at, 1, f"this is nested deeper than {DEEPEST}"))
-        self.count += 1
-        if self.count > MOST_VALUES:
-            raise FaultAt(Cause(at, 1, f"the file has more than {MOST_VALUES} values"))
-        if isinstance(node, self.yaml.MappingNode):
-            return Value(self._table(node, depth), at)
-        if isinstance(node, self.yaml.SequenceNode):
-            return Value([self.value(item, depth + 1) for item in node.value], at)
-        kind = node.tag.rpartition(":")[2]
-        if kind in ("int", "float") and _NUMBER.fullmatch(node.value):
-            return Value(int(node.value) if node.value.isdigit() else Raw(node.value), at)
-        if kind == "bool":
-            return Value(self.loader.construct_yaml_bool(node), at)
-        return Value(None, at) if kind == "null" else _scalar(node.value, at, self.text)
-
-    def _table(self, node, depth):
-        """The table of a mapping, with what it merges (`<<`)."""
-        lines = {}
-        for name, _ in node.value:
-            at = name.start_mark.index
-            if not isinstance(name, self.yaml.ScalarNode):
-                raise FaultAt(Cause(at, 1, "this key is not a text"))
-            line = line_of(self.text, at)
-            if name.value in lines and name.value != "<<":
-                what = f'the key "{shown(name.value)}" is on line {lines[name.value]} too'
-                raise FaultAt(Cause(at, len(name.value), what, "remove one of them"))
-            lines[name.value] = line
-        self.loader.flatten_mapping(node)
-        return {key(name.value, name.start_mark.index): self.value(item, depth + 1) for name, item in node.value}
+def _of_yaml(text, data, mark, kind):
+    """A Value of its data, its mark, and the kind of a scalar."""
+    if kind in ("int", "float") and _NUMBER.fullmatch(data):
+        data = int(data) if data.isdigit() else Raw(data)
+    elif kind in ("bool", "null"):
+        data = None if kind == "null" else data.lower() in ("yes", "true", "on")
+    elif isinstance(data, str):
+        return _scalar(data, mark.index, text)
+    return Value(data, mark.index)
 
 
 def read_toml(text):

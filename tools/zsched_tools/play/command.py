@@ -1,6 +1,5 @@
 """Serves a page on this machine. You type schedules and what their attempts do, and see the picture and the report, or
-the fault with its place. It is docs/play.html, with reports by zsched. It loads nothing from other hosts, and sends
-nothing to them."""
+the fault with its place. It is docs/play.html, with reports by zsched. It loads and sends nothing elsewhere."""
 import argparse
 import bisect
 import http.server
@@ -78,8 +77,7 @@ def every_input(bounds, plan, attempt):
 
 
 def answer(zsched, plan, seconds, bounds=None, attempt=None):
-    """What the page shows for the bytes of a plan: the report, and what holds for every input; or the fault with its
-    place."""
+    """What the page shows for the bytes of a plan: the report and what holds for every input, or the fault."""
     many = plan_size.warning(plan, MOST_ATTEMPTS)
     if many:
         return {"fault": {"field": "until", "cause": many, "help": SMALLER}}
@@ -173,7 +171,7 @@ class Handler(http.server.BaseHTTPRequestHandler):
         ] if is_wrong), None)
 
     def do_GET(self):
-        """Handles every method: sends the page, a report or an error. The body of a rejected request is read and dropped."""
+        """Handles every method: sends the page, a report or an error. A rejected request's body is dropped."""
         refusal = self.refusal()
         if refusal is not None:
             self.give(refusal[0], "text/plain; charset=utf-8", f"zsched-play: {refusal[1]}\n".encode())
@@ -208,7 +206,7 @@ class Handler(http.server.BaseHTTPRequestHandler):
         self.wfile.flush()
 
     def drop_body(self):
-        """Reads the body of a rejected request, up to a limit, so that the error arrives before the connection is closed."""
+        """Reads the body of a rejected request, up to a limit, so that the error arrives before the end."""
         size = self.headers.get("Content-Length", "0")
         left = min(int(size), 4 * LONGEST_BODY) if re.fullmatch("[0-9]{1,18}", size) else 0
         while left > 0:
@@ -246,7 +244,8 @@ def arguments():
     port = command.number(0, 65535, "{} is not a port: 0 to 65535")
     words.add_argument("--port", type=port, default=PORT, help=f"the port ({PORT}); 0 picks a free one")
     words.add_argument("--zsched", metavar="PATH", help="the program (ZSCHED, or the one that is built or on PATH)")
-    words.add_argument("--bounds", metavar="PATH", help="zsched-bounds (ZSCHED_BOUNDS, or the one that is built or on PATH)")
+    words.add_argument("--bounds", metavar="PATH",
+                       help="zsched-bounds (ZSCHED_BOUNDS, or the one that is built or on PATH)")
     return command.complete(words)
 
 

@@ -28,7 +28,7 @@ IMPORT = """Finds the retry policies in FILE, and prints a line of JSON for each
   grpc          a gRPC service config (JSON): methodConfig with a retryPolicy
   envoy         a route's or a virtual host's retry_policy (YAML, JSON)
   istio         the retries of a VirtualService (YAML)
-  temporal      a RetryPolicy (JSON, YAML)
+  temporal      a RetryPolicy, or the options of an activity (JSON, YAML)
   kubernetes    a Job or a CronJob (YAML)
   resilience4j  resilience4j.retry (YAML, properties)
   spring        settings of Spring Retry, or Spring Boot's retries (YAML, properties)
@@ -122,10 +122,10 @@ def _always(scope, one, other):
     """How the bounds of the second policy differ from those of the first one, in lines."""
     if other.most is not None and other.most < one.least or one.most is not None and one.most < other.least:
         yield f"{scope} B makes {'fewer' if other.least < one.least else 'more'} attempts than A"
-    waits = [it.longest if it.has_all_waits() and it.longest <= bounding.LAST_MOMENT else None for it in (one, other)]
+    waits, totals = zip(*(it.limits() if it.has_all_waits() else (None, None) for it in (one, other)))
     limits = [_limit(one.most, other.most, "attempts", "{} more", "{} fewer", "attempt"),
               _limit(*waits, "each wait", "a wait that is {} longer", "a wait that is {} shorter"),
-              _limit(one.total, other.total, "all waits", "{} more of waits in all", "{} less of waits in all"),
+              _limit(*totals, "all waits", "{} more of waits in all", "{} less of waits in all"),
               _limit(one.run, other.run, "the whole call", "an end that is {} later", "an end that is {} earlier")]
     if any(limits):
         yield f"the limits of B {scope}: {listed(list(filter(None, limits)))}"
@@ -177,7 +177,8 @@ def policies_of(path):
 
 
 def names_of(policies):
-    return f"it has {listed([it.name for it in policies[:20]])}" if policies else f"{TOOL} import --help lists the formats"
+    names = listed([it.name for it in policies[:20]])
+    return f"it has {names}" if names else f"{TOOL} import --help lists the formats"
 
 
 def line_of_file(path, name):

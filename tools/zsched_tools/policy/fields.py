@@ -1,5 +1,4 @@
-"""The settings of a policy: each is taken by its name and read as a number, a duration or texts; others are left
-out."""
+"""The settings of a policy: each is taken by its name and read as a number, a duration or texts; others stay."""
 import re
 from fractions import Fraction
 from typing import Callable, NamedTuple
@@ -128,8 +127,7 @@ def texts(node):
 
 
 def duration(node, unit=None):
-    """A duration in milliseconds: 1.5s, 1m30s, PT1.5S, 00:00:01.5, a table of seconds and nanos, or a number of `unit`
-    milliseconds."""
+    """A duration in milliseconds: 1.5s, 1m30s, PT1.5S, 00:00:01.5, a table of seconds and nanos, or a number."""
     if node.is_table() and keys_of(node) <= {"seconds", "nanos"}:
         return sum((number(it) * UNITS["s" if plain(key) == "seconds" else "ns"] for key, it in node.data.items()),
                    Fraction(0))

@@ -8,6 +8,9 @@ import sys
 from typing import NamedTuple
 
 from zsched_tools.command import Refused, read
+from zsched_tools.place import Cause, FaultAt, line_of
+from zsched_tools.plan.placed import key
+from zsched_tools.words import shown
 
 MOST_BYTES = 2_000_000
 # Of a file with all its aliases written out.
@@ -16,7 +19,7 @@ DEEPEST = 100
 DEBIAN = "/usr/lib/python3/dist-packages"
 NO_YAML = "YAML needs PyYAML, and it isn't installed (Debian: python3-yaml; pip: PyYAML)"
 _TOKEN = re.compile(r'"(?:[^"\\]|\\.)*"|[^\s,:\[\]{}"]+|[,:\[\]{}]')
-_PAIR = re.compile(r"((?:\\.|[^\\\s=:])+)(?:\s*[=:]\s*|\s+|$)(.*)")
+_PAIR = re.compile(r"((?:\\.|[^\\\s=:])+?)(\[[0-9]+\])?(?:\s*[=:]\s*|\s+|$)(.*)")
 _SECTION = re.compile(r"\s*\[\s*([^\]]*?)\s*\]\s*(?:[#;].*)?")
 _ASSIGNED = re.compile(r"(?:export\s+)?([A-Za-z_][\w.-]*)\s*=\s*(.*?)\s*(?:\s[#;].*)?")
 _KINDS = {"json": "json", "yaml": "yaml", "yml": "yaml", "properties": "properties", "py": "python", "ini": "ini",
@@ -92,7 +95,7 @@ def _json_node(token, tokens, depth):
     return _sized(table if text == "{" else items, line)
 
 
-def yaml_module():
+def _yaml_module():
     """PyYAML, of this Python or of Debian's."""
     for more in [], [DEBIAN]:
         sys.path += more
@@ -101,58 +104,109 @@ def yaml_module():
     raise OSError(NO_YAML)
 
 
+def documents(text, make, deepest, most):
+    """The values of the documents of a YAML text, at most `most` with aliases written out. `make` makes one, with a
+    member `data`, of a dict, a list or a scalar's text, its mark, and a scalar's kind. FaultAt has a fault."""
+    yaml = _yaml_module()
+    try:
+        return list(_Reader(yaml, text, make, deepest, most).documents())
+    except yaml.MarkedYAMLError as fault:
+        mark = fault.problem_mark or fault.context_mark
+        _refuse(min(mark.index, len(text)), f"not YAML: {fault.problem}")
+    except yaml.reader.ReaderError as fault:
+        _refuse(fault.position, f"not YAML: {fault.reason}")
+
+
+def _refuse(at, what, help="", size=1):
+    raise FaultAt(Cause(at, size, what, help)) from None
+
+
+class _Reader:
+    """Reads the events of a text. `anchors` has the values that aliases name and their sizes, None for open ones."""
+
+    def __init__(self, yaml, text, make, deepest, most):
+        self.yaml, self.make, self.deepest, self.most = yaml, make, deepest, most
+        self.loader, self.anchors, self.count = yaml.SafeLoader(text), {}, 0
+
+    def documents(self):
+        while self.loader.check_event():
+            if isinstance(self.loader.get_event(), self.yaml.DocumentStartEvent):
+                self.anchors = {}
+                yield self._value(self.loader.get_event(), 0)
+
+    def _value(self, event, depth):
+        mark, before, name = event.start_mark, self.count, event.anchor
+        value, size = None, 1
+        if isinstance(event, self.yaml.AliasEvent):
+            if self.anchors.get(name) is None:
+                _refuse(mark.index, f"*{name} is inside of the value that it names" if name in self.anchors
+                        else f"no value before this is named &{name}")
+            value, size = self.anchors[name]
+        self.count += size
+        if depth == self.deepest:
+            _refuse(mark.index, f"this is nested deeper than {self.deepest}")
+        if self.count > self.most:
+            _refuse(mark.index, f"the file has more than {self.most} values")
+        if value is not None:
+            return value
+        self.anchors[name] = None
+        if isinstance(event, self.yaml.ScalarEvent):
+            tag = event.tag or self.loader.resolve(self.yaml.ScalarNode, event.value, event.implicit)
+            value = self.make(event.value, mark, tag.rpartition(":")[2])
+        elif isinstance(event, self.yaml.SequenceStartEvent):
+            value = self.make([self._value(item, depth + 1) for item in self._inner()], mark, None)
+        else:
+            value = self.make(self._table(depth + 1), mark, None)
+        self.anchors[name] = value, self.count - before
+        return value
+
+    def _inner(self):
+        """The first event of each part of a list or a table."""
+        while not isinstance(event := self.loader.get_event(), self.yaml.CollectionEndEvent):
+            yield event
+
+    def _table(self, depth):
+        """The table of a mapping, with what it merges (`<<`)."""
+        table, lines, merged = {}, {}, []
+        for event in self._inner():
+            at = event.start_mark.index
+            if not isinstance(event, self.yaml.ScalarEvent):
+                _refuse(at, "this key is not a text")
+            name = event.value
+            if name in lines and name != "<<":
+                _refuse(at, f'the key "{shown(name)}" is on line {lines[name]} too', "remove one of them", len(name))
+            lines[name] = event.start_mark.line + 1
+            value = self._value(self.loader.get_event(), depth)
+            if name != "<<":
+                table[key(name, at)] = value
+            else:
+                merged += value.data if isinstance(value.data, list) else [value]
+                if not all(isinstance(it.data, dict) for it in merged):
+                    _refuse(at, "<< needs a table, or a list of tables", size=2)
+        for value in merged:
+            table = {**value.data, **table}
+        return table
+
+
 def read_yaml(text):
     """The trees of the documents of a YAML file."""
-    yaml = yaml_module()
     try:
-        events = yaml.parse(text, Loader=yaml.SafeLoader)
-        begins = (it for it in events if isinstance(it, yaml.DocumentStartEvent))
-        return [_yaml_node(next(events), events, yaml, {}, 0) for _ in begins]
-    except yaml.MarkedYAMLError as fault:
-        raise Wrong((fault.problem_mark or fault.context_mark).line + 1, f"not YAML: {fault.problem}") from None
-    except yaml.reader.ReaderError as fault:
-        raise Wrong(text.count("\n", 0, fault.position) + 1, f"not YAML: {fault.reason}") from None
+        return documents(text, _of_yaml, DEEPEST, MOST_VALUES)
+    except FaultAt as fault:
+        what = "; ".join(filter(None, [fault.cause.what, fault.cause.help]))
+        raise Wrong(line_of(text, fault.cause.at), what) from None
 
 
-def _yaml_node(event, events, yaml, anchors, depth):
-    """The value that begins with an event. `anchors` has the values that aliases name, None for open ones."""
-    line, table, items, merged = event.start_mark.line + 1, {}, [], []
-    if depth > DEEPEST:
-        raise Wrong(line, f"this is nested deeper than {DEEPEST}")
-    if isinstance(event, yaml.AliasEvent):
-        if anchors.get(event.anchor) is None:
-            raise Wrong(line, f"*{event.anchor} is inside of the value that it names" if event.anchor in anchors
-                        else f"no value before this is named &{event.anchor}")
-        return anchors[event.anchor]
-    anchors[event.anchor] = None
-    if isinstance(event, yaml.ScalarEvent):
-        is_null = event.implicit[0] and event.value in ("", "~", "null", "Null", "NULL")
-        node = Node(None if is_null else event.value, line)
-    else:
-        while not isinstance(found := next(events), yaml.CollectionEndEvent):
-            node = _yaml_node(found, events, yaml, anchors, depth + 1)
-            if isinstance(event, yaml.SequenceStartEvent):
-                items.append(node)
-                continue
-            value = _yaml_node(next(events), events, yaml, anchors, depth + 1)
-            if not isinstance(node.data, str):
-                raise Wrong(found.start_mark.line + 1, "this key is not a text")
-            if node.data == "<<":
-                merged += value.data if isinstance(value.data, list) else [value]
-            else:
-                _put(table, node.data, value, found.start_mark.line + 1)
-        for value in merged:
-            if not value.is_table():
-                raise Wrong(value.line, "<< needs a table, or a list of tables")
-            table = {**value.data, **table}
-        node = _sized(items if isinstance(event, yaml.SequenceStartEvent) else table, line)
-    anchors[event.anchor] = node
-    return node
+def _of_yaml(data, mark, kind):
+    """A Node of its data, its mark, and the kind of a scalar."""
+    line = mark.line + 1
+    return _sized(data, line) if kind is None else Node(None if kind == "null" else data, line)
 
 
 def read_properties(text):
-    """The tree of a Java properties file. A dot in a key leads one level down."""
-    rows, before = [], ""
+    """The tree of a Java properties file. A dot in a key leads one level down; the items of a list, as name[0], are a
+    text with commas."""
+    rows, before = {}, ""
     for number, line in enumerate(text.split("\n"), 1):
         line = before + line.strip()
         if not line or line[0] in "#!":
@@ -161,9 +215,11 @@ def read_properties(text):
         if not before:
             if not (found := _PAIR.fullmatch(line)):
                 raise Wrong(number, "not a property: write NAME = VALUE")
-            key, value = found.groups()
-            rows.append((re.sub(r"\\(.)", r"\1", key).split(".")[:DEEPEST], Node(value.strip(), number)))
-    return unfolded(rows)
+            key, is_item, value = found.groups()
+            place = key if is_item else (key, number)
+            items = [*rows[place][1].data.split(","), value.strip()] if place in rows else [value.strip()]
+            rows[place] = re.sub(r"\\(.)", r"\1", key).split(".")[:DEEPEST], Node(",".join(items), number)
+    return unfolded(rows.values())
 
 
 def unfolded(rows):

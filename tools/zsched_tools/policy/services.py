@@ -22,6 +22,7 @@ CODES = TABLE["grpc"]
 ENVOY = {"numretries", "retryon", "retrybackoff", "pertrytimeout", "ratelimitedretrybackoff", "retriablestatuscodes",
          "retriableheaders", "retryhostpredicate"}
 TEMPORAL = {"backoffcoefficient", "maximumattempts", "maximuminterval", "nonretryableerrortypes"}
+ACTIVITY = {"starttoclosetimeout", "scheduletoclosetimeout"}
 FULL = {"kind": "full"}
 
 
@@ -40,14 +41,18 @@ def find(root):
         around = path[-2][1] if len(path) > 1 else Node({}, 1)
         entries, policy = part(node, "methodconfig"), part(node, "retrypolicy")
         for entry in entries.data if entries is not None and isinstance(entries.data, list) else []:
-            if (found := part(entry, "retrypolicy")) is not None:
+            if (found := part(entry, "retrypolicy", "hedgingpolicy")) is not None:
                 yield Found("grpc", _methods(entry), found.line, functools.partial(_grpc, found, entry, node))
         if keys_of(policy) & ENVOY:
-            yield Found("envoy", _envoy_name(path), policy.line, functools.partial(_envoy, policy, node))
+            yield Found("envoy", _envoy_name(path), policy.line, functools.partial(_envoy, policy, path))
         if key == "retries" and keys & {"attempts", "pertrytimeout", "retryon", "backoff"}:
             name = next(filter(None, (_name_of(it) for _, it in reversed(path[:-1]))), "istio")
             yield Found("istio", name, node.line, functools.partial(_istio, node, around))
-        if keys & TEMPORAL or (keys == {"initialinterval"} and key == "retrypolicy"):
+        if keys & ACTIVITY:
+            policy = part(node, "retrypolicy", "retry", "retryoptions") or Node({}, node.line)
+            yield Found("temporal", label(path, "temporal"), policy.line, functools.partial(_temporal, policy, node))
+        elif not keys_of(around) & ACTIVITY and (keys & TEMPORAL
+                                                 or (keys, key) == ({"initialinterval"}, "retrypolicy")):
             yield Found("temporal", label(path, "temporal"), node.line, functools.partial(_temporal, node, around))
         if text_of(part(node, "kind")) in ("Job", "CronJob") and part(node, "spec") is not None:
             yield Found("kubernetes", _name_of(node) or "job", node.line, functools.partial(_job, node))
@@ -85,7 +90,9 @@ def _code(node):
 
 def _grpc(policy, entry, config):
     fields, around = Fields(policy), Fields(entry)
-    around.take("name"), around.take("retrypolicy")
+    if around.take("retrypolicy") is None:
+        raise Wrong(policy.line, "a hedgingPolicy begins attempts beside those that run, which no schedule does")
+    around.take("name")
     reads = {"maxAttempts": whole, "initialBackoff": duration, "maxBackoff": duration, "backoffMultiplier": number}
     found = {name: fields.get(read, plain(name)) for name, read in reads.items()}
     codes = fields.take("retryablestatuscodes")
@@ -121,7 +128,17 @@ def envoy_waits(base, most):
                    base * 10 if most is None else max(base, int(most)))
 
 
-def _envoy(policy, route):
+def _envoy_others(path):
+    """The settings beside a policy that aren't carried over: those of its route, or of each route of its virtual host
+    that has no other policy. Envoy's timeout is that of all attempts together."""
+    node, others = path[-1][1], ("timeout", "idletimeout", "hedgepolicy", "maxstreamduration")
+    yield from (name for name in node.data if plain(name) in others)
+    for it in tables(part(node, "routes") or Node({}, 1), path):
+        if it != path and part(it[-1][1], "retrypolicy") is None and it[-1][0] == "route":
+            yield from (f"{_envoy_name(it)}: {name}" for name in it[-1][1].data if plain(name) in others)
+
+
+def _envoy(policy, path):
     fields = Fields(policy)
     usual = Node({"base_interval": Node(f"{default('envoy', 'base_interval')}ms", 1)}, 1)
     back_off = Fields(fields.take("retrybackoff") or usual)
@@ -132,8 +149,7 @@ def _envoy(policy, route):
     retries = part(retries, "value") if retries is not None and retries.is_table() else retries
     timeout, on = fields.get(duration, "pertrytimeout"), fields.get(texts, "retryon", default=[])
     left_out = [*fields.left_out(), *(f"retry_back_off.{name}" for name in back_off.left_out())]
-    others = ("timeout", "idletimeout", "hedgepolicy", "maxstreamduration")
-    left_out += [name for name in route.data if plain(name) in others]
+    left_out += _envoy_others(path)
     count = default("envoy", "num_retries") if retries is None else whole(retries)
     return Policy(envoy_waits(base, most), count, left_out, timeout or None, on, FULL)
 

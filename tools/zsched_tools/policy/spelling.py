@@ -17,8 +17,7 @@ GREATEST = 2**64 - 1
 
 class Waits(NamedTuple):
     """The waits of a policy. `at` returns the one with this number, from 1, in whole milliseconds. All from `steady` on
-    are equal. `closed` returns the text of an endless schedule that begins with the first n waits (None: with all),
-    or None."""
+    are equal. `closed` returns the text of an endless schedule with these first n waits (None: all), or None."""
     at: Callable[[int], int]
     steady: int | None = None
     closed: Callable[[int | None], str | None] = lambda _: None

@@ -36,19 +36,19 @@ doesn't matter. If the report is rejected, the lines before the fault are writte
 of type total."""
 FROM_LINES = """Writes the report of JSON lines, with the same bytes that `lines` read. Lines that form no report are
 rejected; as with `lines`, the part before the fault is written."""
-SUMMARY = """Writes a table with a line a job: its ending, the moment of the ending, its attempts, the number that succeeded
-(ok) and failed (err), the time that its attempts took (busy), the time between them (waited) and the longest wait. An
-attempt that runs or a wait that continues at the horizon counts up to it. The lines below are the most attempts at once,
-with the first such moment, and the times within which 50, 95 and 99 of 100 jobs ended. A job's time is that from its
-first attempt to its end; an unfinished job takes longer than all others."""
+SUMMARY = """Writes a table with a line a job: its ending, the moment of the ending, its attempts, the number that
+succeeded (ok) and failed (err), the time that its attempts took (busy), the time between them (waited) and the longest
+wait. An attempt that runs or a wait that continues at the horizon counts up to it. The lines below are the most
+attempts at once, with the first such moment, and the times within which 50, 95 and 99 of 100 jobs ended. A job's time
+is that from its first attempt to its end; an unfinished job takes longer than all others."""
 LOAD = """Writes a table with a line for each step of time: the number of attempts that began, succeeded (ok) and failed
-(err) in it, the number of attempts that run and of jobs that wait for their next attempt at its end. The first line is the
-first step in which something begins, the last line the last step in which something begins or ends. A step includes its
-first moment and not its last."""
+(err) in it, the number of attempts that run and of jobs that wait for their next attempt at its end. The first line is
+the first step in which something begins, the last line the last step in which something begins or ends. A step includes
+its first moment and not its last."""
 SVG = """Writes a picture: jobs from top to bottom, time from left to right. Rest the pointer on an attempt to see its
-data. Attempts that are too near each other share a striped block. If there are more than 16 jobs, a strip with their load
-is below them; if there are more than 200, only the load is drawn. The picture is 1240 pixels wide, and a narrower window
-scrolls: on a phone the page of `html` is better."""
+data. Attempts that are too near each other share a striped block. If there are more than 16 jobs, a strip with their
+load is below them; if there are more than 200, only the load is drawn. The picture is 1240 pixels wide, and a narrower
+window scrolls: on a phone the page of `html` is better."""
 HTML = """Writes the picture of `svg` as a page with a time axis that zooms. The page loads nothing from other hosts."""
 JOIN = """Makes one report of the reports of a plan's parts: the jobs of each, in order, and the sum of all polls.
 With the manifest that `zsched-plan split` wrote, each part's report is compared with its digest part-NNNNNN.sha256, which
@@ -141,7 +141,7 @@ def _add_summary(one):
                      "most attempts first; else that of the report")
     one.add_argument("--one-line", action="store_true", help="only the figures below the table, in one line")
     one.add_argument("--within", metavar="TIME", type=duration_argument,
-                     help="say how many jobs succeeded or finished within this time, such as 5s, from their first attempt")
+                     help="say how many jobs succeeded or finished within this time from their first attempt, as 5s")
 
 
 def _add_load(one):
@@ -192,8 +192,7 @@ def _arguments():
 
 
 def _work(given):
-    """Writes the form. Nothing here has reference cycles, and the search for them takes a quarter of the time of short
-    jobs."""
+    """Writes the form. There are no reference cycles, and the search for them takes a quarter of the time."""
     gc.disable()
     given.work(given)
 

@@ -113,8 +113,8 @@ def page(rows, title, view=View()):
 
 
 def _style_of_widths():
-    """Shows the widest picture that fits. The patterns have the same names in all pictures, so all use those of the first
-    picture. They stay visible if that picture is hidden."""
+    """Shows the widest picture that fits. The patterns have the same names in all pictures, so all use those of the
+    first picture. They stay visible if that picture is hidden."""
     yield "<style>main>div{visibility:hidden;height:0;overflow:hidden}pattern{visibility:visible}\n"
     for width, wider in zip(LOAD_WIDTHS, [*LOAD_WIDTHS[1:], None]):
         bounds = [f"(min-width:{width + BESIDE}px)"] if width > LOAD_WIDTHS[0] else []

@@ -9,8 +9,8 @@ def in_order(function, items):
     """Yields what a function returns for each item, in order. An exception for an item is raised in its place.
 
     A process begins as a copy of this one, so a text has the same hash here and there. Each process works on at most
-    one item at a time, and an item is taken from `items` when a process is free for it. So the number of items in memory
-    is at most the number of processors."""
+    one item at a time, and an item is taken from `items` when a process is free for it. So the number of items in
+    memory is at most the number of processors."""
     items = iter(items)
     count = len(os.sched_getaffinity(0)) if hasattr(os, "sched_getaffinity") else 1
     first = list(itertools.islice(items, 2))

@@ -56,8 +56,8 @@ class Attempts:
 
 class Summary:
     """All jobs of a report: the lines of the table with their keys for sorting, the times to the end of the jobs that
-    aren't unfinished, the number of jobs that ended well within the limit, how often each ending occurs, and by how much
-    the number of running attempts changes at each moment."""
+    aren't unfinished, the number of jobs that ended well within the limit, how often each ending occurs, and by how
+    much the number of running attempts changes at each moment."""
 
     def __init__(self, options):
         self.options, self.rows, self.times, self.well = options, [], [], 0

@@ -37,20 +37,20 @@ Each attempt ends as --fails says. With --after N this holds only for the first 
 duration is a number of milliseconds, or has a unit: 40, 40ms, 1.5s, 2min, 1h30m, 1d. docs/RECIPES.md has policies for
 many tasks.
 
-A policy is a schedule, or one of these, and standard error shows the schedule that it becomes. Random waits are drawn with
---seed. docs/FORMATS.md says what then holds for every draw.
+A policy is a schedule, or one of these, and standard error shows the schedule that it becomes. Random waits are drawn
+with --seed. docs/FORMATS.md says what then holds for every draw.
 
   @service.yaml#checkout                      the policy that `zsched-policy import service.yaml` finds
   delays(1s, 1.5s, 2.25s)                     these waits, one after another
   exponential(1s, 1.5, max 10s, 9 retries)    a factor with a fraction, a cap, a number of retries
-  (exponential(100) && recurs(5)) jitter full each wait drawn from 0 to it; jitter equal from half of it, jitter 20% from
-                                              80 % to 120 % of it, jitter 2/3..1 from two thirds of it
+  (exponential(100) && recurs(5)) jitter full each wait drawn from 0 to it; jitter equal from half of it, jitter 20%
+                                              from 80 % to 120 % of it, jitter 2/3..1 from two thirds of it
   slow: spaced(1000)                          a policy with a name, which the picture and the plan have
 
 The limit of an attempt that a config has counts as --attempt does, unless that is given."""
-EPILOG = """A policy that is unfinished at --until has neither an end nor a last attempt, so it exceeds every --max-total
-and --max-attempts. Its waits count up to --until. --max-.. are limits of this run, --require-.. of every run. The whole
-call is from the begin of the first attempt to the end of the last.
+EPILOG = """A policy that is unfinished at --until has neither an end nor a last attempt, so it exceeds every
+--max-total and --max-attempts. Its waits count up to --until. --max-.. are limits of this run, --require-.. of every
+run. The whole call is from the begin of the first attempt to the end of the last.
 
 Exit status: 0; 1 if a policy exceeds a bound, or if a required bound isn't proved (standard error names it); 2 if a
 policy or an argument is wrong, with a caret below its place, if there is no zsched, or if --require-.. is given without
@@ -96,8 +96,7 @@ def _attempt(given, policy):
 
 
 def _entries(given, policy):
-    """The entries of the script of a policy. Without a limit its attempts take as long as those of the other
-    policies."""
+    """The entries of the script of a policy. Without a limit its attempts take as long as those of others."""
     limits = _attempt(given, policy)
     longest = limits[1] if limits else max((it.timeout for it in given.read if it.timeout), default=None)
     for option, entry in [("--fails", given.fails), ("--then", given.then)]:
@@ -178,7 +177,7 @@ def _wrong(tool, given, cause):
 
 def of_all(given, *policies):
     """What the bounds of policies are for, with the durations of their attempts."""
-    every = "for every draw and input" if any(it.is_drawn for it in policies) else "for every input"
+    every = "for every draw and input" if any(it.is_drawn or it.is_less for it in policies) else "for every input"
     attempt, *others = {_attempt(given, it) for it in policies}
     if others:
         return f"{every} and each one's attempts"
@@ -236,8 +235,7 @@ def _run(tool, given, plan):
 
 
 def tried(tool, given, is_plan=False):
-    """Runs the policies of a command line, and returns the report, or the plan. A fault is shown, and the result is
-    None."""
+    """Runs the policies of a command line, and returns the report, or the plan. A fault is shown, for None."""
     try:
         _read(given)
         jobs = zip(job_names(given.read), given.schedules, (_entries(given, policy) for policy in given.read))
@@ -280,8 +278,8 @@ def add_attempts(parser):
     parser.add_argument("--after", type=_count(MOST_AFTER), metavar="N", help="how many attempts end as --fails says")
     parser.add_argument("--then", type=_entry, metavar="ATTEMPT", help="each attempt after these: '35 ok 200'")
     parser.add_argument("--attempt", type=_durations, metavar="TIME",
-                        help="the greatest duration of an attempt: 5s; with the least one: 20ms..5s. It is also that of "
-                             "the attempts of this run, unless --fails or --then say another")
+                        help="the greatest duration of an attempt: 5s; with the least one: 20ms..5s. It is also that "
+                             "of the attempts of this run, unless --fails or --then say another")
     parser.add_argument("--until", type=_time(0), default=_time(0)("1d"), metavar="TIME", help="the horizon: 1d")
     parser.add_argument("--seed", type=_count(2**64 - 1), default=0, metavar="N", help="of random waits (0)")
     parser.add_argument("--zsched", metavar="PATH", help="the program (ZSCHED, the built or the installed one)")
