@@ -1,8 +1,8 @@
 """What zsched-bounds prints for a schedule, computed a second time from docs/SEMANTICS.md, as a run over intervals.
 
 Each number of a schedule's state is an interval: its least and its greatest value. A history is driven: moments are at
-most LAST, and an attempt begins at the schedule's next moment. It takes the least duration or more, which is 1 ms or more,
-and at most the greatest one, if there is one."""
+most LAST, and an attempt begins at the schedule's next moment. It takes the least duration or more, which is 1 ms or
+more, and at most the greatest one, if there is one."""
 import random
 import re
 
@@ -92,7 +92,8 @@ def merge(s, a, b):
 
 
 def step(s, state, d):
-    """The result of one more step, an interval d of time after the one before, and the next state; None is the first."""
+    """The result of one more step, an interval d of time after the one before, and the next state; None is the
+    first."""
     match s:
         case ("&&" | "||") as operator, a, b:
             (x, v, stops_a), after_a = step(a, state and state[0], d)
@@ -143,8 +144,21 @@ def step_in_turn(a, b, state, d):
     return result, (first, second)
 
 
+def never_ends(s):
+    """Whether the form of a schedule shows that it never gives up, as docs/FORMATS.md says."""
+    match s:
+        case "&&", a, b:
+            return never_ends(a) and never_ends(b)
+        case ("||" | "andThenEither"), a, b:
+            return never_ends(a) or never_ends(b)
+        case ("map" | "collectAll" | "resetWhen"), part, *_:
+            return never_ends(part)
+    return s[0] not in ("recurs", "whileInput", "whileOutput")
+
+
 def bounds(s, durations=ANY, most=STEPS):
-    """The bounds of a schedule and durations of attempts, by at most this number of steps, as zsched-bounds prints them."""
+    """The bounds of a schedule and durations of attempts, by at most this number of steps, as zsched-bounds prints
+    them."""
     state, d, passed, least, longest, total, run = None, None, 0, 1, 0, 0, durations[1]
     for n in range(1, most + 1):
         (_, wait, may_stop), state = step(s, state, d)
@@ -159,8 +173,8 @@ def bounds(s, durations=ANY, most=STEPS):
     is_cut = wait is not None and passed <= LAST
     total, run = (None if is_cut or it is None or it > MOST else it for it in (total, run))
     return {"attempt": dict(zip(("least", "most"), durations)), "attempts": {
-        "least": least, "most": n if wait is None else None}, "longest_wait": longest, "total_wait": total,
-        "longest_run": run, "steps_seen": n}
+        "least": least, "most": n if wait is None else None}, "never_gives_up": never_ends(s),
+        "longest_wait": longest, "total_wait": total, "longest_run": run, "steps_seen": n}
 
 
 def policy(chance):
@@ -178,10 +192,12 @@ def random_policy(seed):
 
 
 def reached(text, s, shortest, longest_attempt):
-    """The steps, at most DEEP, of at most MOST_HISTORIES histories over the inputs and durations that matter to a policy,
-    and the bounds that these reach. A run has the attempt that the last step lets begin, even if it ends after LAST."""
+    """The steps, at most DEEP, of at most MOST_HISTORIES histories over the inputs and durations that matter to a
+    policy, and the bounds that these reach. A run has the attempt that the last step lets begin, even if it ends after
+    LAST."""
     ks = map(int, re.findall(r"[<=>] *(\d+)", text) if "nput" in text or "identity" in text else [])
-    inputs, late = sorted({0, *(min(max(0, k + d), MOST) for k in ks for d in (-1, 0, 1))}), longest_attempt or shortest + 2
+    inputs, late = sorted({0, *(min(max(0, k + d), MOST) for k in ks
+                                for d in (-1, 0, 1))}), longest_attempt or shortest + 2
     is_timed = any(word in text for word in ("fixed", "windowed", "elapsed"))
     durations = {shortest, min(shortest + 1, late), late} if is_timed else {late}
     steps = max(n for n in range(1, DEEP + 1) if len(inputs) ** n * len(durations) ** (n - 1) <= MOST_HISTORIES)
@@ -200,13 +216,15 @@ def reached(text, s, shortest, longest_attempt):
         if n == steps:
             most = steps + 1
         else:
-            open_histories += [([*pairs, (x + d, i)], waited + wait) for d in durations if x + d <= LAST for i in inputs]
+            open_histories += [([*pairs, (x + d, i)], waited + wait) for d in durations if x + d <= LAST
+                               for i in inputs]
     return steps, (least, most, longest, total, run)
 
 
 def tightness(seeds):
     """How many bounds of small policies without `resetWhen`, of which three of four have an end, some history reaches
-    exactly within the same steps: for each of the five bounds the number of policies that reach it, and that have it."""
+    exactly within the same steps: for each of the five bounds the number of policies that reach it, and that have
+    it."""
     met, had = [0] * 5, [0] * 5
     for seed in seeds:
         found, durations = random_policy(seed), random.Random(seed).choice(DURATIONS)

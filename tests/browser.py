@@ -24,7 +24,8 @@ def opened(address, width=1280, words=()):
 
 def framed(folder, addresses, widths, found):
     """What a function of a page returns for each of these pages, at each of these widths."""
-    frames = "".join(f'<iframe width="{width}" height="2500" src="{it}"></iframe>' for width in widths for it in addresses)
+    frames = "".join(f'<iframe width="{width}" height="2500" src="{it}"></iframe>' for width in widths
+                     for it in addresses)
     (folder / "frames.html").write_text(f"""<!doctype html>{frames}<p id="found"></p><script>
 onload = () => setTimeout(() => {{ document.getElementById("found").textContent = JSON.stringify(
   [...document.querySelectorAll("iframe")].map(frame => ({found})(frame.contentDocument))); }}, 3000);</script>""")

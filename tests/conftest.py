@@ -51,8 +51,8 @@ def pytest_testnodedown(node):
 
 
 def below_floors(config):
-    """What is wrong with the counts of the files that are run."""
-    found, counts = [], config.stash.get(COUNTS, {})
+    """Yields what is wrong with the counts of the files that are run."""
+    counts = config.stash.get(COUNTS, {})
     floor = {name: number for name, number in floors().items() if name.startswith("test_")}
     is_whole = any(pathlib.Path(word).is_dir() for word in config.args)
     names = {path.name for path in (TOP / "tests").glob("test_*.py")}
@@ -60,10 +60,9 @@ def below_floors(config):
         if "::" in name:
             continue
         if name not in floor:
-            found.append(f"tests/floors.txt has no number for {name}")
+            yield f"tests/floors.txt has no number for {name}"
         elif counts.get(name, 0) < floor[name]:
-            found.append(f"{name} has {counts.get(name, 0)} cases, and tests/floors.txt asks for {floor[name]}")
-    return found
+            yield f"{name} has {counts.get(name, 0)} cases, and tests/floors.txt asks for {floor[name]}"
 
 
 @pytest.hookimpl(trylast=True)
@@ -72,7 +71,7 @@ def pytest_sessionfinish(session):
     config = session.config
     if hasattr(config, "workeroutput"):
         config.workeroutput["counts"] = config.stash.get(COUNTS, {})
-    elif not config.option.collectonly and (faults := below_floors(config)):
+    elif not config.option.collectonly and (faults := list(below_floors(config))):
         session.exitstatus = session.exitstatus or pytest.ExitCode.TESTS_FAILED
         print("", *[f"floor: {fault}" for fault in faults], sep="\n")
 
@@ -110,10 +109,7 @@ def library():
     """The folder of the library, which one process builds if no variable names it."""
     if named := os.environ.get("ZSCHED_LIBRARY_DIR"):
         return pathlib.Path(named)
-    held = os.open(TOP / "tests", os.O_RDONLY)
-    try:
+    with open(TOP / "tests" / "floors.txt", encoding="utf-8") as held:
         fcntl.flock(held, fcntl.LOCK_EX)
         subprocess.run([TOP / "build" / "make-library"], check=True, stdout=subprocess.DEVNULL)
-    finally:
-        os.close(held)
     return TOP / "crates" / "zsched_c" / "out"

@@ -1,6 +1,7 @@
 """Plans that have a fault, and plans at the limits. The table of faults is faults.tsv, in the order of docs/FORMATS.md:
 a line has the text of a fault, in which N is a number, these numbers, a name, a part of ONE_JOB and what that part is.
-⟨9×x⟩ is x nine times, ⟨1..9×#⟩ are numbers with commas between, ⟨ff⟩ is a byte, and ⟨plan⟩ is ONE_JOB."""
+A line of limits.tsv has a name, the report, a part and what that is. ⟨9×x⟩ is x nine times, ⟨1..9×#⟩ are numbers with
+commas between, ⟨ff⟩ is a byte, and ⟨plan⟩ is ONE_JOB."""
 import functools
 import pathlib
 import re
@@ -9,13 +10,12 @@ from typing import NamedTuple
 import pytest
 
 import mistakes
-from support import BLOCK, ONE_JOB, ONE_REPORT, job, plan, tree
+from support import ONE_JOB, ONE_REPORT, job, plans_with_reports, report_beside, tree
 
-LONGEST = 16777216
-DEEP = 100000
 # What the program writes if the plan has no fault but the run fails, by exit status.
 OTHERS = {3: ["read failed", "write failed after N bytes"], 4: ["out of memory", "no thread"]}
-NAMED = {"⟨plan⟩": ONE_JOB.decode(), "⟨job⟩": job(), "⟨tree⟩": tree(501)}
+NAMED = {"⟨plan⟩": ONE_JOB.decode(), "⟨report⟩": ONE_REPORT.decode(), "⟨job⟩": job(),
+         "⟨500 leaves⟩": tree(500), "⟨501 leaves⟩": tree(501)}
 # The text of ONE_JOB that each part takes the place of.
 PARTS = {"plan": ONE_JOB.decode(), "clock": '"horizon":1000', "jobs": job(), "name": '"a"', "mode": "retry",
          "schedule": "recurs(3)", "script": '{"ms":5,"err":7},{"ms":5,"ok":1}', "end": '},{"ms":5,"ok":1}]'}
@@ -26,21 +26,9 @@ class Fault(NamedTuple):
     text: str
     plans: list
 
-    def form(self):
-        return form_of(self.text)
-
     def told(self, numbers):
         """Its text with these numbers."""
         return re.sub(r"\bN\b", "{}", self.text).format(*numbers)
-
-
-def form_of(text):
-    """The pattern of a text in which N is a number."""
-    return re.sub(r"\bN\b", r"\\d+", re.escape(text))
-
-
-def script(entries):
-    return '"script":[' + ",".join(entries) + "]"
 
 
 def written_out(text):
@@ -78,21 +66,7 @@ def refused():
 
 def accepted():
     """Plans at the limits: a name, the bytes, and the report."""
-    deep = "forever" + ".collectAll" * 63
-    ended = b"job a repeat\nattempt 1 0..1 err 1\nend failed 1 at 1 polls 2\npolls 2\n"
-    failing = script(['{"ms":1,"err":1}'])
-    entries = ['{"ms":5,"err":7}', '{"ms":5,"ok":1}'] + ['{"ms":1,"ok":1}'] * 998
-    return [
-        ("the greatest horizon", plan(horizon='"horizon":999999999999999'), ONE_REPORT),
-        ("no jobs", plan([]), b"polls 0\n"),
-        ("a name of 64 bytes", plan([job("a" * 64)]), (BLOCK.format("a" * 64) + "polls 3\n").encode()),
-        ("a script of 1,000 entries", plan([job(script=script(entries))]), ONE_REPORT),
-        ("a schedule of depth 64", plan([job(schedule=deep, mode="repeat", script=failing)]), ended),
-        ("a schedule of 1,000 nodes", plan([job("a", tree(500) + ".collectAll", "repeat", failing)]), ended),
-        ("a plan of 16,777,216 bytes", ONE_JOB.ljust(LONGEST), ONE_REPORT),
-        ("workers 64 and grain 10000", plan(more=',"workers":64,"grain":10000'), ONE_REPORT),
-        ("a number with 100,000 spaces before it", plan([job(schedule="recurs(" + " " * DEEP + "3)")]), ONE_REPORT),
-    ]
+    return [(name, data, written_out(report).encode()) for name, report, data in lines_of("limits.tsv")]
 
 
 def outcomes():
@@ -102,7 +76,14 @@ def outcomes():
         pytest.param(text, (0, report, b""), id=name) for name, text, report in accepted()]
 
 
+def answers():
+    """The same, but for 1,000,001 ticks, which take the reference long, and the plans with a report next to them."""
+    return [it for it in outcomes() if "1,000,001" not in it.id] + [
+        pytest.param(path.read_bytes(), (0, report_beside(path), b""), id=path.stem) for path in plans_with_reports()]
+
+
 def lines():
     """The patterns of the lines that the program may write on standard error, by exit status."""
     texts = {2: [fault.text for fault in table()], **OTHERS}
-    return {status: rf"zsched: ({'|'.join(map(form_of, some))})\n".encode() for status, some in texts.items()}
+    forms = {status: "|".join(map(re.escape, some)) for status, some in texts.items()}
+    return {status: r"zsched: ({})\n".format(re.sub(r"\bN\b", r"\\d+", it)).encode() for status, it in forms.items()}

@@ -4,10 +4,11 @@
     ./check            all parts, over the programs that it proves and builds
     ./check --short    without the tests that need a JDK, Slurm, a browser or the like
     ./check --anew     repeats what earlier runs on this machine passed
-    ./check NAME ..    over the programs built last: proofs, survivors, or a file of tests (cases is tests/test_cases.py)
+    ./check NAME ..    over the programs built last: proofs, survivors, or a file of tests (cases: test_cases.py)
     ./check quick      for the minutes between edits: proves what changed, and runs the plans unproved
 
 The last line is 'N passed, M failed'; the status is 0 if M is 0."""
+import argparse
 import contextlib
 import os
 import re
@@ -22,7 +23,7 @@ sys.dont_write_bytecode = True
 
 import quick
 import yardstick
-from support import POPULATION, REFUSALS, STAMP, TOP, ZSCHED, floors, parser_of
+from support import POPULATION, REFUSALS, STAMP, TOP, ZSCHED, floors
 from toolchain import sources_sum
 
 # The checksum of all files with which the gate passed, for build/release.
@@ -126,7 +127,8 @@ def table(parts, seconds, yards):
 
 def options_of(words):
     """The options of the command line, and the files of tests among them."""
-    parser = parser_of(__doc__, prog="check", usage="./check [--anew] [--short] [quick | NAME ..]")
+    parser = argparse.ArgumentParser("check", "./check [--anew] [--short] [quick | NAME ..]", __doc__,
+                                     formatter_class=argparse.RawDescriptionHelpFormatter)
     parser.add_argument("--anew", action="store_true", help="repeat what an earlier run passed")
     parser.add_argument("--short", action="store_true", help="leave out the tests that are marked `full`")
     parser.add_argument("names", nargs="*", metavar="NAME", help="quick, proofs, survivors, or files of tests")

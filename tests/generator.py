@@ -11,11 +11,9 @@ import re
 import hypothesis
 from hypothesis import strategies
 
+from reference import LAST_TICK, LONGEST_PLAN, M
 from support import examples, tree
 
-M = 2 ** 64 - 1
-LAST_TICK = 999999999999999
-LONGEST_PLAN = 16777216
 # How many examples a test of random plans or policies has.
 CHUNK = 250
 
@@ -27,20 +25,9 @@ LETTERS = {"N": NUMBERS, "P": [max(1, number) for number in NUMBERS], "C": ["<",
            "L": [M + 1, M + 5, 10 ** 20 - 1, 10 ** 40]}
 
 
-class Drawn:
-    """The choices of hypothesis, as `chance`."""
-
-    def __init__(self, draw):
-        self.draw = draw
-
-    def choice(self, options):
-        return options[self.draw(strategies.integers(0, len(options) - 1))]
-
-
-@strategies.composite
-def made(draw, make, *words):
-    """The strategy of what a function of this file makes."""
-    return make(Drawn(draw), *words)
+def made(make):
+    """The strategy of what a function makes by the choices of hypothesis."""
+    return strategies.randoms(use_true_random=False).map(make)
 
 
 def chunks(number):
@@ -59,9 +46,9 @@ def seldom(chance, times):
     return chance.choice(range(times)) == times - 1
 
 
-def whole(chance, least=0):
+def whole(chance):
     """A whole number: mostly a small one, now and then one at a limit."""
-    return max(least, chance.choice(NUMBERS))
+    return chance.choice(NUMBERS)
 
 
 LEAVES = ["forever", "recurs(N)", "recurs(N)", "spaced(N)", "identity", "elapsed", "linear(N)", "fixed(N)",
@@ -372,12 +359,6 @@ def mutated(chance, plan, times=1):
         else:
             text = change(chance, text)
     return text.encode(errors="surrogateescape")
-
-
-def changed_plans(plans, count, seed):
-    """`count` plans, each one of these, changed one to three times."""
-    chance = random.Random(seed)
-    return (mutated(chance, chance.choice(plans), chance.choice([1, 1, 1, 2, 3])) for _ in range(count))
 
 
 def any_plan(chance):

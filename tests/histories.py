@@ -14,8 +14,8 @@ FALLS = "the moment is below that of the step before it"
 
 
 class History:
-    """A text and its steps. `fault` is the last word of its line, if there is one, and `steps` the words before it, each with
-    a '*' for the visits, which are at least 1 and at most `weight`."""
+    """A text and its steps. `fault` is the last word of its line, if there is one, and `steps` the words before it,
+    each with a '*' for the visits, which are at least 1 and at most `weight`."""
 
     def __init__(self, text, pairs=()):
         self.text, self.pairs, self.steps, self.weight = text, list(pairs), [], 0
@@ -81,7 +81,8 @@ def made_text(chance):
 
 def made_pairs(chance, most):
     """Steps at random moments: mostly in order, now and then with a fall."""
-    moments = [generator.whole(chance) for _ in range(chance.choice([it for it in [1, 2, 3, 5, 8, 13, 20, 40, 40] if it <= most]))]
+    moments = [generator.whole(chance)
+               for _ in range(chance.choice([it for it in [1, 2, 3, 5, 8, 13, 20, 40, 40] if it <= most]))]
     return [(moment, generator.whole(chance)) for moment in (moments if seldom(chance, 10) else sorted(moments))]
 
 

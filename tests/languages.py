@@ -1,7 +1,8 @@
-"""The clients of the library in tests/clients/, one for each language: how each is built over a library, and what it prints.
+"""The clients of the library in tests/clients/, one for each language: how each is built over a library, and what it
+prints.
 
-A client is built in an empty folder, of copies of its source and of its language's binding, with no variable of this process
-but those that compilers need. tests/clients/client.c documents its requests and lines."""
+A client is built in an empty folder, of copies of its source and of its language's binding, with no variable of this
+process but those that compilers need. tests/clients/client.c documents its requests and lines."""
 import fcntl
 import functools
 import json
@@ -24,7 +25,8 @@ CPP = ("c++", "-x", "c++", "-std=c++17")
 WRAPPED = ["-Wl,--wrap=malloc,--wrap=realloc,--wrap=free", "-lpthread"]
 JNA = pathlib.Path("/usr/share/java/jna.jar")
 UNWANTED = shutil.ignore_patterns("__pycache__", "target", "Cargo.lock", "*.node", "example*")
-CLEAN = {name: os.environ[name] for name in ["PATH", "HOME", "CARGO_HOME", "RUSTUP_HOME", "NODE_INCLUDE"] if name in os.environ}
+CLEAN = {name: os.environ[name]
+         for name in ["PATH", "HOME", "CARGO_HOME", "RUSTUP_HOME", "NODE_INCLUDE"] if name in os.environ}
 
 
 def need(*tools):
@@ -53,7 +55,8 @@ class Client(NamedTuple):
     def says(self, requests, *more, before=()):
         """The lines that it prints of these requests, with more words after and before its own."""
         words = [str(it) for it in [*before, *self.words, *more]]
-        ended = subprocess.run(words, input="".join(f"{it}\n" for it in requests), capture_output=True, text=True, check=False,
+        ended = subprocess.run(words, input="".join(f"{it}\n" for it in requests), capture_output=True, text=True,
+                               check=False,
                                env=CLEAN | self.variables)
         assert ended.returncode == 0, f"{words}: {ended.returncode}: {ended.stdout[-500:]}{ended.stderr[-3000:]}"
         return ended.stdout.splitlines()
@@ -70,7 +73,8 @@ def request(command, text, *numbers):
 
 
 def are_kept(waits, moments):
-    """Whether these are the milliseconds between attempts, but for what a step's moment leaves out and a busy machine adds."""
+    """Whether these are the milliseconds between attempts, but for what a step's moment leaves out and a busy machine
+    adds."""
     gaps = [after - before for before, after in zip(moments, moments[1:])]
     return len(gaps) == len(waits) and all(wait - 1 <= gap < wait + 3000 for gap, wait in zip(gaps, waits))
 
@@ -95,7 +99,8 @@ def python(_, place):
 
 def go_variables(place):
     """The variables with which Go finds the library and uses no network."""
-    return {"CGO_CFLAGS": f"-I{place.include}", "CGO_LDFLAGS": f"-L{place.library}", "LD_LIBRARY_PATH": str(place.library),
+    return {"CGO_CFLAGS": f"-I{place.include}", "CGO_LDFLAGS": f"-L{place.library}",
+            "LD_LIBRARY_PATH": str(place.library),
             "GOPROXY": "off", "GOFLAGS": "-mod=readonly -buildvcs=false"}
 
 
@@ -112,7 +117,8 @@ def go(room, place):
     (room / "client").mkdir()
     shutil.copy(CLIENTS / "client.go", room / "client")
     (room / "client" / "go.mod").write_text(f"module client\n\ngo 1.19\n\nrequire {module} {name}\n")
-    ran(["go", "build", "-o", room / "answers", "."], room / "client", GOPROXY=f"file://{room / 'proxy'}", GONOSUMDB="*",
+    ran(["go", "build", "-o", room / "answers", "."], room / "client", GOPROXY=f"file://{room / 'proxy'}",
+        GONOSUMDB="*",
         GOMODCACHE=room / "cache", GOFLAGS="-mod=mod -modcacherw")
     return Client([room / "answers"], {})
 
@@ -132,7 +138,8 @@ def java(room, place, jar=None):
     need("javac", JNA)
     classes = jar or room / "classes"
     if not jar:
-        ran(["javac", "-Xlint:all", "-Werror", "-cp", JNA, "-d", classes, *sorted(BINDINGS.glob("java/zsched/*.java"))], room)
+        ran(["javac", "-Xlint:all", "-Werror", "-cp", JNA, "-d", classes,
+             *sorted(BINDINGS.glob("java/zsched/*.java"))], room)
     path = f"{JNA}:{classes}"
     ran(["javac", "-Xlint:all", "-Werror", "-cp", path, "-d", "client", CLIENTS / "Client.java"], room)
     found = [] if jar else [f"-Djna.library.path={place.library}"]
@@ -153,7 +160,8 @@ def rust(room, place, crate=BINDINGS / "rust"):
 
 
 LANGUAGES = {"C": c, "C watched": lambda room, place: c(room, place, *WATCHED),
-             "C++": lambda room, place: c(room, place, compiler=CPP), "Python": python, "Go": go, "Node": node, "Java": java,
+             "C++": lambda room, place: c(room, place, compiler=CPP), "Python": python, "Go": go, "Node": node,
+             "Java": java,
              "Rust": rust}
 
 

@@ -27,13 +27,6 @@ def written_out(text):
     return re.sub(r"⟨(\d+)×(.+?)⟩", lambda found: found[2] * int(found[1]), text)
 
 
-def mistakes():
-    """The name of each mistake, the plan with its sign, the program's line, and a word of the help."""
-    for line in pathlib.Path(__file__).with_suffix(".tsv").read_text(encoding="utf-8").split("\n")[:-1]:
-        part, name, text, fault, word = line.split("\t")
-        yield name, WHOLE[part].replace("%s", written_out(text)), fault, word
-
-
 def split(marked):
     """The bytes of a plan without its sign, and the line and the column of the sign."""
     before, after = marked.split("»")
@@ -41,4 +34,7 @@ def split(marked):
     return data, before.count("\n") + 1, len(before) - before.rfind("\n")
 
 
-MISTAKES = list(mistakes())
+LINES = pathlib.Path(__file__).with_suffix(".tsv").read_text(encoding="utf-8").split("\n")[:-1]
+# The name of each mistake, the plan with its sign, the program's line, and a word of the help.
+MISTAKES = [(name, WHOLE[part].replace("%s", written_out(text)), fault, word)
+            for part, name, text, fault, word in (line.split("\t") for line in LINES)]

@@ -42,7 +42,8 @@ globalThis.page = {
     if (fault) return { ...fault, line: undefined };
     const [policy] = named("asking").policiesOf({ a: text, b: "" });
     const draws = [() => 0, () => 1 - 2 ** -53].map(it => policy.texts(it));
-    return [policy.name, ...policy.becomes(), ...policy.isDrawn ? draws : []];
+    const part = policy.isPart ? ["without bounds"] : [];
+    return [policy.name, ...policy.becomes(), ...part, ...policy.isDrawn ? draws : []];
   },
   // What holds for every input of a schedule and attempts of these durations, in numbers and in words.
   bounds: (schedule, steps = null, attempt = [1, null]) =>

@@ -3,6 +3,7 @@
 machine over the same files; --anew repeats everything. `rt ci` passes if an edit doesn't apply or can't be read. This
 fails then, and if one of the files in crates/*/must-fail isn't reported as rejected. It notes the libraries that were
 built, for build/make-library and `rt check`. The last line is 'N passed, M failed'."""
+import argparse
 import os
 import re
 import signal
@@ -11,7 +12,7 @@ import sys
 
 sys.dont_write_bytecode = True
 
-from support import TOP, parser_of
+from support import TOP
 import toolchain
 
 LAST = re.compile(r"(\d+) passed, (\d+) failed")
@@ -48,7 +49,7 @@ def variables():
 
 
 def main():
-    words = parser_of(__doc__)
+    words = argparse.ArgumentParser(description=__doc__)
     words.add_argument("--anew", action="store_true", help="repeat what an earlier run passed")
     is_anew = words.parse_args().anew
     before, wanted, lines = toolchain.sources_sum(), edits(), []

@@ -1,7 +1,7 @@
 """The result of zsched for a plan, computed a second time from docs/SEMANTICS.md and docs/FORMATS.md alone: its status,
 report and fault. It never runs out of memory or threads. It is as naive as the documents: an output is evaluated from
-the whole history, one job after another, without state, timer or thread. Results are cached only so that none is computed
-twice. What has one letter in the documents has it here."""
+the whole history, one job after another, without state, timer or thread. Results are cached only so that none is
+computed twice. What has one letter in the documents has it here."""
 import bisect
 import itertools
 import json

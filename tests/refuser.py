@@ -1,4 +1,5 @@
-"""Runs of a program in which allocations or starts of threads fail, by the library refuse.c, which is loaded before it."""
+"""Runs of a program in which allocations or starts of threads fail, by the library refuse.c, which is loaded before
+it."""
 import os
 import pathlib
 import subprocess
@@ -23,14 +24,16 @@ class Refuser:
     def __init__(self, folder):
         source = pathlib.Path(__file__).with_name("refuse.c")
         self.library, self.count = folder / "refuse.so", folder / "count"
-        subprocess.run(["cc", "-shared", "-fPIC", "-O2", "-Wall", "-Werror", "-o", self.library, source, "-ldl", "-lpthread"],
+        subprocess.run(["cc", "-shared", "-fPIC", "-O2", "-Wall", "-Werror", "-o", self.library, source, "-ldl",
+                        "-lpthread"],
                        check=True)
 
     def run(self, program, text, **failures):
         """A run in which some things fail: at=3 means REFUSE_AT=3 of refuse.c."""
         self.count.write_text("0 0")
         more = {f"REFUSE_{name.upper()}": str(number) for name, number in failures.items()}
-        ended = run(program, text, {**os.environ, "LD_PRELOAD": str(self.library), "REFUSE_COUNT": str(self.count), **more})
+        ended = run(program, text,
+                    {**os.environ, "LD_PRELOAD": str(self.library), "REFUSE_COUNT": str(self.count), **more})
         return Counted(ended, *map(int, self.count.read_text().split()))
 
     def each(self, program, text, kind="at"):

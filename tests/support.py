@@ -1,5 +1,4 @@
 """What the tests share: the built programs, runs of commands, and the plans that tests feed them."""
-import argparse
 import gc
 import io
 import itertools
@@ -101,7 +100,8 @@ def run(program, text, environment=None, seconds=60, **more):
 
 
 def difference(found, wanted):
-    """Where two results of `run` differ, in a few words, or None. pytest itself would compare long reports for hours."""
+    """Where two results of `run` differ, in a few words, or None. pytest itself would compare long reports for
+    hours."""
     if found == wanted:
         return None
     streams = [f"status {found[0]} instead of {wanted[0]}"]
@@ -157,8 +157,3 @@ def floors():
 def examples(number):
     """The number of random examples of a test: this one, times the option --examples."""
     return number * int(os.environ.get("ZSCHED_EXAMPLES", "1"))
-
-
-def parser_of(text, **more):
-    """A parser of a script's options, with the script's text as help."""
-    return argparse.ArgumentParser(description=text, formatter_class=argparse.RawDescriptionHelpFormatter, **more)

@@ -1,9 +1,9 @@
 #!/usr/bin/env python3
 """Plants each body that the prover can't reject, in one copy of the crates, and sees that a test catches it.
 
-CONTRIBUTING.md has the form of a survivor. In a file it changes the body of one function, which may hold one lock of all
-threads (`crate::chosen::zs_lock()`, `zs_unlock()`). A number picks a body at run time. What catches it has to pass without
-it. The last line is 'N passed, M failed'."""
+CONTRIBUTING.md has the form of a survivor. In a file it changes the body of one function, which may hold one lock of
+all threads (`crate::chosen::zs_lock()`, `zs_unlock()`). A number picks a body at run time. What catches it has to pass
+without it. The last line is 'N passed, M failed'."""
 import concurrent.futures
 import os
 import pathlib
@@ -78,7 +78,8 @@ def plant(crates, survivors):
 def ran(words, folder, seconds, variables, said=subprocess.DEVNULL, until=lambda: False):
     """The status of a command, or None if it is not done after some seconds. Ends all that it started."""
     limit = time.monotonic() + seconds
-    running = subprocess.Popen(words, cwd=folder, env={**os.environ, **variables}, stdin=subprocess.DEVNULL, stdout=said,
+    running = subprocess.Popen(words, cwd=folder, env={**os.environ, **variables}, stdin=subprocess.DEVNULL,
+                               stdout=said,
                                stderr=said, start_new_session=True)
     while running.poll() is None and time.monotonic() < limit and not until():
         time.sleep(0.02)

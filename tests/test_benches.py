@@ -12,7 +12,7 @@ import pytest
 
 import reference
 from languages import need
-from support import TOP, difference, executable, run, run_here, run_tool
+from support import TOP, difference, executable, rows, run, run_here, run_tool
 
 BENCHES = TOP / "benches"
 sys.path.insert(0, str(BENCHES))
@@ -92,14 +92,9 @@ def test_a_population_is_split_run_and_joined(population, tmp_path):
                                          *["the pipe"] * populations.has_parallel(), "lines", "summary", "load"]
 
 
-IDLE = "cat > /dev/null; printf 'job j0 repeat\\nend unfinished at 9 polls 0\\npolls 0\\n'"
-
-
-@pytest.mark.parametrize("shell, wanted", [
-    ("exit 4", r"^population.py: run ended with status 4\n$"),
-    ("cat > /dev/null; echo polls 0", "has other jobs .*\n.* join by the manifest ended with status 2\n$"),
-    (IDLE, "^population.py: the joined report isn't that of 1 jobs: .*polls 0")], ids=["a status", "no job", "another end"])
-def test_a_population_has_the_wrong_report(shell, wanted, tmp_path):
+# What is wrong, the commands of the program that is run, and a pattern of the error.
+@pytest.mark.parametrize("name, shell, wanted", rows("wrong_populations.jsonl"))
+def test_a_population_has_the_wrong_report(name, shell, wanted, tmp_path):
     status, _, errors = run_tool([*POPULATION, "--jobs", "1", "--zsched", executable(tmp_path / "script", shell)])
     assert status == 1
     assert re.search(wanted, errors)

@@ -1,5 +1,6 @@
-"""The bindings: one client in each language (tests/clients/) steps the same schedules, fails with the same faults and retries
-by the same policies. What only Python has is in tests/test_python.py. The example of each binding really waits."""
+"""The bindings: one client in each language (tests/clients/) steps the same schedules, fails with the same faults and
+retries by the same policies. What only Python has is in tests/test_python.py. The example of each binding really
+waits."""
 import pathlib
 import re
 import shutil
@@ -25,9 +26,9 @@ FAULTS = {text.encode(): fault for text, fault in rows("faulty_texts.jsonl")}
 RETRIES = rows("retries.jsonl")
 # Policies of which each attempt fails at once.
 PROMISED = rows("promised.jsonl")
-# A policy, the code of all failures; a jitter in percent, a least wait in milliseconds, the code that isn't retried, and 1
-# for a shared budget; how many attempts there are at least and most, and the least and most milliseconds of each wait.
-# Steps are made at the moments that are planned without jitter, so it makes no more attempts.
+# A policy, the code of all failures; a jitter in percent, a least wait in milliseconds, the code that isn't retried,
+# and 1 for a shared budget; how many attempts there are at least and most, and the least and most milliseconds of each
+# wait. Steps are made at the moments that are planned without jitter, so it makes no more attempts.
 OPTIONS = rows("retry_options.jsonl")
 MANY, TIMES, BYTES_A_STEP = 1_000_000, 1.5, 4
 
@@ -54,7 +55,8 @@ def test_faults_have_their_number_place_and_text(client, name):
     assert [it.fault for it in chosen] == list(FAULTS.values())
     for command in ways(name):
         judge(client(name), chosen, command)
-    assert client(name).says([request("program", "forever.collectAll", 1, 0), request("program", "recurs(1)", 5, 0, 4, 0),
+    assert client(name).says([request("program", "forever.collectAll", 1, 0),
+                              request("program", "recurs(1)", 5, 0, 4, 0),
                               request("list", "recurs(2)", 5, 0, 5, 0, 4, 0)]) == [
         KEEPS_LIST, f"0,5,1,0 3,0,{FALLS}", f"0,5,1,0 0,5,1,1 3,2,{FALLS}"]
 
@@ -134,14 +136,16 @@ def test_options_of_a_retry(client, name, text, code, options, least, most, shor
 @pytest.mark.parametrize("name", named(*BOUND))
 def test_calls_share_a_budget(client, name):
     """Of 10 tokens: a failed attempt takes one, another adds a half, and more than 5 have to be there for a retry."""
-    lines = client(name).says(request("retry", "recurs(9)", 7, times, 0, 0, 0, 1) for times in [99, 99, 0, 0, 0, 0, 0, 99])
+    lines = client(name).says(request("retry", "recurs(9)", 7, times, 0, 0, 0, 1)
+                              for times in [99, 99, 0, 0, 0, 0, 0, 99])
     assert [sum(":" not in it for it in line.split()) - 1 for line in lines] == [5, 1, 1, 1, 1, 1, 1, 2]
 
 
 @pytest.mark.parametrize("name", named(*BOUND))
 def test_bounds_are_those_that_were_worked_out_by_hand(client, name):
     for place, more in enumerate([(), (1, 5000)]):
-        assert client(name).says(request("bounds", text, 1000, *more) for text in BOUNDS) == [it[place] for it in BOUNDS.values()]
+        assert client(name).says(request("bounds", text, 1000, *more) for text in BOUNDS) == [it[place]
+                                                                                              for it in BOUNDS.values()]
     assert client(name).says([request("bounds", "recurs(1)", 9, 6, 5)]) == ["10,0,no attempt takes these durations"]
     assert client(name).says(request("bounds", text.decode(), 9) for text in FAULTS) == list(FAULTS.values())
 
@@ -153,7 +157,8 @@ def test_a_million_steps_take_flat_time_and_memory(client, name):
     for _ in range(3):
         begun, spent, memory = time.monotonic(), [], []
         it = client(name)
-        with subprocess.Popen(list(map(str, it.words)), env=CLEAN | it.variables, stdin=subprocess.PIPE, stdout=subprocess.PIPE,
+        with subprocess.Popen(list(map(str, it.words)), env=CLEAN | it.variables, stdin=subprocess.PIPE,
+                              stdout=subprocess.PIPE,
                               text=True) as running:
             running.stdin.write(f"{request('many', policy, MANY)}\n")
             running.stdin.flush()
@@ -174,7 +179,8 @@ def test_a_million_steps_take_flat_time_and_memory(client, name):
 READY = "ready after 4 attempts\n"
 
 
-@pytest.mark.parametrize("words", [["-std=c99"], ["-std=gnu17"], ["-std=gnu11", *WATCHED]], ids=["c99", "gnu17", "watched"])
+@pytest.mark.parametrize("words", [["-std=c99"], ["-std=gnu17"], ["-std=gnu11", *WATCHED]],
+                         ids=["c99", "gnu17", "watched"])
 def test_the_example_in_c_waits_for_its_server(library, tmp_path, words):
     ran(["cc", *STRICT, *words, *built_library(library).flags, "-o", "example", BINDINGS / "c" / "example.c",
          library / "libzsched.a", "-lpthread"], tmp_path)
@@ -185,7 +191,8 @@ def test_the_example_in_go_waits_for_its_server_and_its_tests_pass(library, tmp_
     need("go")
     for command in ["vet", "test"]:
         ran(["go", command, "./..."], BINDINGS / "go", **go_variables(built_library(library)))
-    ran(["go", "build", "-o", tmp_path / "example", "./example"], BINDINGS / "go", **go_variables(built_library(library)))
+    ran(["go", "build", "-o", tmp_path / "example", "./example"], BINDINGS / "go",
+        **go_variables(built_library(library)))
     assert ran(["./example"], tmp_path, LD_LIBRARY_PATH=library) == READY
 
 

@@ -1,6 +1,6 @@
-"""What zsched-bounds prints for random policies and durations: it is what the run over intervals in tests/bounds.py has,
-and no driven history leaves it. `ZSCHED_LONG=1 pytest tests/test_bounds.py -n 3 --examples 50` tries 100,000 policies, each
-by all steps."""
+"""What zsched-bounds prints for random policies and durations: it is what the run over intervals in tests/bounds.py
+has, and no driven history leaves it. `ZSCHED_LONG=1 pytest tests/test_bounds.py -n 3 --examples 50` tries 100,000
+policies, each by all steps."""
 import json
 import os
 import random
@@ -23,7 +23,8 @@ def follow(chance, s, b):
     """Asserts that a random driven history stays within bounds."""
     first = moment = chance.choice([0, 1, 5, 1000, intervals.LAST // 2])
     pairs, memo, waited, (shortest, longest), (least, most) = [], {}, 0, b["attempt"].values(), b["attempts"].values()
-    times = [shortest, longest, (shortest + longest) // 2] if longest else [shortest + it for it in (0, 0, 1, 4, 39, 999)]
+    times = [shortest, longest,
+             (shortest + longest) // 2] if longest else [shortest + it for it in (0, 0, 1, 4, 39, 999)]
     for n in range(1, min(HISTORY_STEPS, b["steps_seen"]) + 1):
         pairs.append((moment, chance.choice(INPUTS)))
         _, x = reference.step(s, reference.History(pairs, memo, 0, n))
@@ -31,7 +32,7 @@ def follow(chance, s, b):
         run = (longest or 0) + (moment if x is None else x + (longest or 0)) - first
         assert b["longest_run"] is None or run <= b["longest_run"]
         if x is None:
-            assert n >= least
+            assert n >= least and not b["never_gives_up"]
             return
         waited += x - moment
         assert n != most and x - moment <= b["longest_wait"] and (b["total_wait"] is None or waited <= b["total_wait"])

@@ -1,11 +1,12 @@
 """Runs the cases that are files: the folders of tests/cases/, and the plans of examples/ and tests/plans/.
 
 A folder tests/cases/TOOL/NAME has `cmd`, a few lines for bash. They run in a copy of the folder, with the commands of
-build/ and tools/ and the built programs first in PATH, and with ZSCHED, ZSCHED_BOUNDS, ZSCHED_POPULATION and TOP set. The files
-`stdin`, `stdout`, `stderr` (none: empty) and `status` (none: 0) say what it gets and what it has to give. Each file of
-`out/` is one that the run has to write. Each line of `needs` is a program that few machines have, and its Debian package:
-such a case is marked `full`. A plan has its report beside it; it runs as it is, and under twelve cuts. Expected files are
-worked out by hand or by another program. `--update` prints what differs, and writes what you accept."""
+build/ and tools/ and the built programs first in PATH, and with ZSCHED, ZSCHED_BOUNDS, ZSCHED_POPULATION and TOP set.
+The files `stdin`, `stdout`, `stderr` (none: empty) and `status` (none: 0) say what it gets and what it has to give.
+Each file of `out/` is one that the run has to write. Each line of `needs` is a program that few machines have, and its
+Debian package: such a case is marked `full`. A plan has its report beside it; it runs as it is, and under twelve cuts.
+Expected files are worked out by hand or by another program. `--update` prints what differs, and writes what you
+accept."""
 import difflib
 import os
 import shutil
@@ -71,7 +72,8 @@ def programs(zsched, population, bounds, tmp_path_factory):
 
 
 @pytest.mark.parametrize("case", [
-    pytest.param(case, id=f"{case.parent.name}/{case.name}", marks=[pytest.mark.full] if needs(case) else []) for case in CASES])
+    pytest.param(case, id=f"{case.parent.name}/{case.name}", marks=[pytest.mark.full] if needs(case) else [])
+    for case in CASES])
 def test_a_case_gives_what_its_files_say(case, programs, tmp_path, request, capsys):
     for name, package in needs(case):
         if not shutil.which(name):

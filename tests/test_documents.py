@@ -1,5 +1,5 @@
 """The documents: links have targets, what they name exists, the plans shown have the reports shown, the figures of
-docs/POLICIES.md are those of its plan, and the language is plain technical English, in the comments of the crates too."""
+docs/POLICIES.md are those of its plan, and the language is plain technical English, in comments of the crates too."""
 import functools
 import json
 import re
@@ -78,7 +78,8 @@ def test_a_new_operator_has_the_files_of_a_leaf():
     named = {folder + name for folder, rest in re.findall(r"^\d\. `(\w.*?/)`: ((?:.*\n)+?)(?=\d\. |\n)", section, re.M)
              for name in re.findall(r"`(\w[\w/.]*\.\w+)`", rest.partition("; ")[0])}
     forms = ["crates/zs_*/[sp]*/**/*.rt", "crates/zs_*/[sp]*/**/*.antt", "docs/*", "tests/[!t]*.py", "tools/*/*.py"]
-    assert named | {"docs/play.html"} == {str(path.relative_to(TOP)) for form in forms for path in TOP.glob(form) if all(
+    paths = [path for form in forms for path in TOP.glob(form)]
+    assert named | {"docs/play.html"} == {str(path.relative_to(TOP)) for path in paths if all(
         re.search(rf"(?i)\b{leaf}\b", path.read_text()) for leaf in ["linear", "windowed"])}
 
 
@@ -150,7 +151,8 @@ def sentences(files):
 def test_words_mean_what_they_mean_elsewhere(words, better, in_pages, in_comments):
     for files, most in [(PROSE, int(in_pages)), (CODE, int(in_comments))]:
         assert len(sentences(files)) > 1000
-        found = [place for place, text in sentences(files) for _ in re.findall(rf"\b(?:{words})\b", text, re.IGNORECASE)]
+        found = [place for place, text in sentences(files)
+                 for _ in re.findall(rf"\b(?:{words})\b", text, re.IGNORECASE)]
         assert len(found) <= most, f"write: {better}"
 
 

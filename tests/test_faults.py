@@ -1,7 +1,6 @@
 """Plans that were changed at random, by slips of the hand and as a hostile user does: the program gives the report or
 the one fault that tests/reference.py gives. `pytest tests/test_faults.py --examples 100` tries 300,000 plans."""
 import re
-import resource
 
 import pytest
 
@@ -12,7 +11,8 @@ import reports
 from support import ONE_JOB, equal_jobs, plans_with_reports, recut, run
 
 PLANS = 3000
-MEMORY = 2 << 30
+# What limits a program, since a plan may not use up the machine.
+LIMITED = ["prlimit", f"--as={2 << 30}", "--core=0"]
 SEEDS = [ONE_JOB, equal_jobs("abcdefg", 2, 3)[0]] + [
     file.read_bytes() for file in plans_with_reports() if file.stat().st_size < 20000]
 
@@ -22,12 +22,6 @@ def changed_plan(chance):
     text = generator.any_plan(chance) if generator.seldom(chance, 3) else chance.choice(SEEDS)
     text = generator.mutated(chance, text, chance.choice([1, 1, 1, 2])) if len(text) < 200000 else text
     return text, chance.choice([1, 2, 7, 64]), chance.choice([1, 3, 10000])
-
-
-def limit_memory():
-    """In the program's process: a plan may not use up the machine."""
-    resource.setrlimit(resource.RLIMIT_AS, (MEMORY, MEMORY))
-    resource.setrlimit(resource.RLIMIT_CORE, (0, 0))
 
 
 def ends_well(status, output, errors):
@@ -44,7 +38,7 @@ def test_a_changed_plan_has_the_report_or_the_fault_of_the_reference(chunk, zsch
         try:
             wanted = reference.answer(text, 300 if text.count(b"collectAll") < 3 else 8)
         except reference.TooManyAttempts:
-            assert ends_well(*run(zsched, text, seconds=1, preexec_fn=limit_memory))
+            assert ends_well(*run([*LIMITED, zsched], text, seconds=1))
             return
         assert run(zsched, text) == wanted
         if wanted[0] == 0:

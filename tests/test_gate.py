@@ -37,37 +37,19 @@ def tree(tmp_path):
     return tmp_path
 
 
-def passes(tree, *words, **more):
+def passes(tree, *words):
     variables = {key: value for key, value in os.environ.items() if not key.startswith("PYTEST")} | {"ZSCHED_GATE": "1"}
-    ended = subprocess.run([sys.executable, "-m", "pytest", "-q", *words], cwd=tree, env=variables | more,
+    ended = subprocess.run([sys.executable, "-m", "pytest", "-q", *words], cwd=tree, env=variables,
                            capture_output=True, check=False)
     return ended.returncode == 0
 
 
-def replaced(path, old, new):
-    text = path.read_text()
-    assert old in text
-    path.write_text(text.replace(old, new))
-
-
-SABOTAGES = {
-    "a case is gone": lambda tests: replaced(tests / "test_a.py", "range(3)", "range(2)"),
-    "a file is empty": lambda tests: (tests / "test_a.py").write_text(""),
-    "a file is gone": lambda tests: (tests / "test_a.py").rename(tests / "a.py"),
-    "a file has no floor": lambda tests: (tests / "test_b.py").write_text("def test_it(): pass\n"),
-    "a test is skipped": lambda tests: replaced(tests / "test_a.py", ": pass", ": pytest.skip()"),
-    "a test is expected to fail": lambda tests: replaced(tests / "test_a.py", ": pass", ": pytest.xfail()"),
-    "a file is skipped": lambda tests: replaced(
-        tests / "test_a.py", "import pytest\n", "import pytest\npytest.skip(allow_module_level=True)\n"),
-    "no cases of a table": lambda tests: replaced(tests / "test_a.py", "range(3)", "[]"),
-    "a process dies": lambda tests: replaced(tests / "test_a.py", ": pass", ": __import__('os')._exit(0)"),
-}
-
-
-@pytest.mark.parametrize("name", SABOTAGES)
-def test_a_sabotage_of_the_tests_is_found(name, tree):
-    SABOTAGES[name](tree / "tests")
-    assert not passes(tree, *["-n", "1"] * (name in ["a case is gone", "a test is skipped", "a process dies"]))
+# What is wrong, the texts of files that have it or null for a file that is gone, and options of pytest.
+@pytest.mark.parametrize("name, files, words", rows("sabotages.jsonl"))
+def test_a_sabotage_of_the_tests_is_found(name, files, words, tree):
+    for file, text in files.items():
+        (tree / "tests" / file).write_text(text) if text is not None else (tree / "tests" / file).unlink()
+    assert not passes(tree, *words)
 
 
 def test_floors_hold_for_the_files_that_run(tree):
@@ -80,15 +62,12 @@ def test_floors_hold_for_the_files_that_run(tree):
     assert passes(tree, "tests/test_b.py")
 
 
-@pytest.mark.parametrize("said, status", [
-    ("rt: must-fail zsched_c/one.edit: refused, as it must be\n2 passed, 0 failed\n", 0),
-    ("rt: must-fail zsched_c/one.edit: BAD EDIT: there is no file src/lib.rt\n1 passed, 0 failed\n", 1),
-    ("1 passed, 0 failed\n", 1)], ids=["it is rejected", "it doesn't apply", "it isn't tried"])
-def test_an_edit_that_the_toolchain_passes_over_fails_the_proofs(said, status, tree):
+@pytest.mark.parametrize("name, said, status", rows("said_of_an_edit.jsonl"))
+def test_an_edit_that_the_toolchain_passes_over_fails_the_proofs(name, said, status, tree):
     (tree / "crates/zsched_c/must-fail").mkdir(parents=True)
-    for name, text in [("crates/zsched_c/must-fail/one.edit", ""), ("crates.txt", "zsched_c staticlib:\n"),
+    for file, text in [("crates/zsched_c/must-fail/one.edit", ""), ("crates.txt", "zsched_c staticlib:\n"),
                        ("said", said), ("rtlib.py", "def crates_below(top):\n    return []\n")]:
-        (tree / name).write_text(text)
+        (tree / file).write_text(text)
     executable(tree / "rt", "[ $1 != ci ] || cat said")
     ended = subprocess.run([sys.executable, "tests/proofs.py"], cwd=tree, capture_output=True, text=True, check=False,
                            env=os.environ | {"PATH": f"{tree}:{os.environ['PATH']}"})

@@ -1,5 +1,5 @@
-"""docs/GUARANTEES.md names what exists: each call with its clauses, each definition, test and file. build/guarantees prints
-the evidence for a row, and reads the page for this test too."""
+"""docs/GUARANTEES.md names what exists: each call with its clauses, each definition, test and file. build/guarantees
+prints the evidence for a row, and reads the page for this test too."""
 import re
 import runpy
 import types
@@ -22,7 +22,8 @@ each_row = pytest.mark.parametrize("crate, promise, calls, definitions", ROWS)
 
 def definitions_in(crate, cell):
     """The definitions that a cell names: triples of a crate, a file and a word of that. A file alone has no word. A
-    word alone is one of the file before it; if no file is before it, it is in the sources, as a type or a ghost member."""
+    word alone is one of the file before it; if no file is before it, it is in the sources, as a type or a ghost
+    member."""
     for part in cell.split("; "):
         place = crate, None
         for other, piece in re.findall(r"(?:(zs_\w+) )?`([^`]+)`", part):
@@ -82,7 +83,8 @@ def test_the_tests_that_the_page_names_exist():
 
 
 def test_the_files_that_the_page_names_exist():
-    homes = [TOP, TOP / "docs", *(folder / "tests" for folder in guarantees.TESTS), *(TOP / "crates" / it for it in CRATES)]
+    homes = [TOP, TOP / "docs", *(folder / "tests" for folder in guarantees.TESTS),
+             *(TOP / "crates" / it for it in CRATES)]
     named = " ".join(guarantees.quoted(guarantees.PAGE)).split()
     assert [name for name in named if FILE.fullmatch(name) and "NAME" not in name and "File" not in name
             and not any((home / name).is_file() for home in homes)] == []

@@ -1,5 +1,5 @@
-"""zsched on plans with many attempts, items, ticks, rounds, jobs or bytes, compared with tests/reference.py: status, output
-and standard error. The reports of the largest are made by a loop here. A status 4 fails."""
+"""zsched on plans with many attempts, items, ticks, rounds, jobs or bytes, compared with tests/reference.py: status,
+output and standard error. The reports of the largest are made by a loop here. A status 4 fails."""
 import json
 import socket
 import subprocess
@@ -7,10 +7,9 @@ import subprocess
 import pytest
 
 import reference
+from reference import LAST_TICK, M
 from support import difference, rows, run
 
-M = 2 ** 64 - 1
-LAST_TICK = 999999999999999
 PATIENCE = 120
 LONGEST_PIECE = 1 << 20
 
@@ -41,7 +40,8 @@ def many_polls(workers):
 
 def many_jobs(count, workers, grain):
     """`count` jobs, which begin and end apart."""
-    jobs = [job(number, "(spaced(2) && recurs(1))", [number], 1 + number % 3, start=number % 5) for number in range(count)]
+    jobs = [job(number, "(spaced(2) && recurs(1))", [number], 1 + number % 3, start=number % 5)
+            for number in range(count)]
     return plan(jobs, horizon=20, workers=workers, grain=grain)
 
 
@@ -66,12 +66,6 @@ PLANS = {
     "a schedule with 1,000,000 spaces": lambda: plan([job(0, "recurs(" + " " * 1000000 + "3)")], horizon=9),
     "a script of 1,000 entries": lambda: plan([job(0, "identity", range(M - 999, M + 1))], horizon=1200),
 }
-
-
-@pytest.mark.parametrize("name", PLANS)
-def test_a_large_plan_has_the_report_of_the_reference(name, zsched):
-    text = PLANS[name]()
-    assert difference(run(zsched, text, seconds=PATIENCE), reference.answer(text)) is None
 
 
 def lines_of(name, outs, start=0, ms=1, value=0):
@@ -100,7 +94,8 @@ def long_report(items):
 
 
 def many_moments(count):
-    """`count` jobs that begin one after the other: the first half from its last job to its first, the others in order."""
+    """`count` jobs that begin one after the other: the first half from its last job to its first, the others in
+    order."""
     starts = [*range(count, 0, -2), *range(count + 2, 2 * count + 1, 2)]
     lines = [line for number, start in enumerate(starts) for line in lines_of(f"j{number}", [0], start)]
     jobs = [job(number, "recurs(0)", start=start) for number, start in enumerate(starts)]
@@ -129,10 +124,11 @@ SIZES = {
 }
 
 
-@pytest.mark.parametrize("name", SIZES)
+@pytest.mark.parametrize("name", [*PLANS, *SIZES])
 def test_a_plan_past_a_size(name, zsched):
-    text, wanted = SIZES[name]()
-    assert difference(run(zsched, text, seconds=PATIENCE), wanted) is None
+    """The report of a plan of PLANS is that of the reference."""
+    text, wanted = SIZES[name]() if name in SIZES else (PLANS[name](), None)
+    assert difference(run(zsched, text, seconds=PATIENCE), wanted or reference.answer(text)) is None
 
 
 def test_a_report_of_100_000_bytes_goes_out_in_one_write(zsched):

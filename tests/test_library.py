@@ -6,7 +6,7 @@ import subprocess
 
 import pytest
 
-from histories import FALLS, History, histories, judge
+from histories import History, histories, judge
 from languages import STRICT, client, need, request
 from support import TOP, rows, tree
 
@@ -15,9 +15,10 @@ UNDER_VALGRIND = 40
 VALGRIND = ["valgrind", "--quiet", "--error-exitcode=9", "--leak-check=full", "--show-leak-kinds=all"]
 # Schedules of the greatest depth.
 DEEPEST = rows("deepest.jsonl")
-# A schedule, the numbers of struct zs_bounds in turn for at most 1000 steps, the same if attempts take at most 5 s, and how
-# they were worked out by hand.
-BOUNDS = {it[0]: it[1:3] for it in (line.split("\t") for line in (TOP / "tests" / "bounds.tsv").read_text().splitlines())}
+# A schedule, the numbers of struct zs_bounds in turn for at most 1000 steps, the same if attempts take at most 5 s, and
+# how they were worked out by hand.
+BOUNDS = {it[0]: it[1:3]
+          for it in (line.split("\t") for line in (TOP / "tests" / "bounds.tsv").read_text().splitlines())}
 # A policy's program, by crates/zs_c/specs/Program.antt and Code.antt.
 POLICY = b"((exponential(100) || spaced(5000)) && recurs(8)).whileInput(>= 500)"
 CODE = [14, 5, 500, 11, 8, 4, 12, 3, 2, 10, 100, 2, 5, 5000, 4, 8]
@@ -30,11 +31,10 @@ def test_histories_have_all_faults_of_texts_and_many_steps():
     assert sum(bool(it.steps) and not it.is_flat for it in histories()) > 100
 
 
-def test_no_step_has_no_result(client):
-    texts = [b"forever", b"recurs(", b"forever.collectAll"]
-    assert client("C").says(f"answer .{text.hex()}" for text in texts) == [
-        "2,0,a schedule answers once it has seen a step", "11,7,no term at byte 7",
-        "2,0,a schedule answers once it has seen a step"]
+# No step has no result, a step visits a part twice if that is reset, and a fault leaves the steps before it.
+@pytest.mark.parametrize("command, text, numbers, wanted", rows("client_lines.jsonl"))
+def test_a_request_has_its_line(client, command, text, numbers, wanted):
+    assert client("C").says([request(command, text, *numbers)]) == [wanted]
 
 
 @pytest.mark.parametrize("command", ["list", "program"])
@@ -45,7 +45,8 @@ def test_four_threads_with_small_stacks_may_call_at_once(client, command):
 @pytest.mark.parametrize("command", ["list", "program", "bounds"])
 def test_each_allocation_may_fail(client, command):
     asked = [it for it in histories() if it.is_flat and len(it.pairs) < 6][:REFUSED]
-    requests = [request("bounds", text, 5) for text in BOUNDS] if command == "bounds" else [it.request(command) for it in asked]
+    requests = [request("bounds", text, 5) for text in BOUNDS] if command == "bounds" else [it.request(command)
+                                                                                            for it in asked]
     found = [int(line) for line in client("C").says(requests, "refuse")]
     assert len(found) == len(requests)
     assert sum(found) > 2 * len(found) and min(found) > 0
@@ -66,7 +67,8 @@ def test_valgrind_finds_no_error_and_no_lost_memory(client, command):
 
 def test_bounds_of_policies_are_those_that_were_worked_out_by_hand(client):
     asked = [("recurs(3)", 3), ("forever", 0), ("recurs(1)", 9, 7, 7), ("recurs(1)", 9, 0, 5), ("?", 9, 6, 5)]
-    asked = [request("bounds", *it) for it in asked + [(text, 1000, *more) for more in [(), (1, 5000)] for text in BOUNDS]]
+    asked = [request("bounds", *it)
+             for it in asked + [(text, 1000, *more) for more in [(), (1, 5000)] for text in BOUNDS]]
     wanted = ["0 3 4" + " 0" * 8, "0 0 1" + " 0" * 8, "0 2 2 1 2 0 1 0 1 14 0", *["10" + " 0" * 10] * 2]
     wanted += [f"0 {it[place]} 0" for place in [0, 1] for it in BOUNDS.values()]
     assert client("C").says(asked, "threads") == client("C watched").says(asked) == wanted
@@ -76,7 +78,8 @@ def test_a_text_that_has_no_bounds_is_refused_as_a_check_refuses_it(client):
     faults = [it for it in histories() if it.weight == 0]
     wanted = [it.fault.split(",") for it in faults]
     assert len(faults) > 300
-    assert client("C").says(f"bounds .{it.text.hex()} 1000" for it in faults) == [f"{it[0]}{' 0' * 9} {it[1]}" for it in wanted]
+    assert client("C").says(f"bounds .{it.text.hex()} 1000" for it in faults) == [f"{it[0]}{' 0' * 9} {it[1]}"
+                                                                                  for it in wanted]
 
 
 def test_the_deepest_schedules_need_no_more_stack_than_the_header_says(client):
@@ -100,17 +103,6 @@ def test_long_texts_long_lists_and_many_words_are_taken(client):
     assert client("C").says(asked) == ["0,4999,1,4999"] * 2
 
 
-def test_a_step_visits_a_part_twice_where_it_resets(client):
-    text = b"elapsed.resetWhen(>= 5)".hex()
-    asked = [f"{command} .{text} 1 0{more}" for command in ["answer", "run"] for more in ["", " 5 0", " 6 0"]]
-    assert client("C").says(asked) == ["0,1,2,0", "0,5,2,4", "0,6,3,0"] * 2
-
-
-def test_a_fault_leaves_the_steps_before_it(client):
-    asked = [f"{command} .{b'recurs(1)'.hex()} 5 7 4 7" for command in ["list", "program"]]
-    assert client("C").says(asked) == [f"0,5,1,0 3,1,{FALLS}", f"0,5,1,0 3,0,{FALLS}"]
-
-
 def test_each_number_of_the_header_has_a_text_that_is_cut_where_its_room_ends(library):
     calls = ctypes.CDLL(str(library / "libzsched.so"))
     calls.zs_fault_text.argtypes = [ctypes.c_uint32, ctypes.c_uint64, ctypes.c_char_p, ctypes.c_size_t]
@@ -123,7 +115,8 @@ def test_each_number_of_the_header_has_a_text_that_is_cut_where_its_room_ends(li
     numbers = re.findall(r"^    ZS_\w+ = (\d+)", (TOP / "include" / "zsched.h").read_text(), re.M)
     texts = [text(int(number), 23) for number in numbers if int(number) > 1]
     assert len(set(texts)) == len(numbers) - 2 and all(0 < len(it) <= 80 for it in texts)
-    assert [it for it in texts if "23" in it] == ["not UTF-8 at byte 23", "no term at byte 23", "number too large at byte 23"]
+    assert [it for it in texts if "23" in it] == ["not UTF-8 at byte 23", "no term at byte 23",
+                                                  "number too large at byte 23"]
     assert [text(number) for number in [0, 1, 17, 2 ** 32 - 1]] == [""] * 4
     assert text(11, 2 ** 64 - 1) == "no term at byte 18446744073709551615"
     whole = b"number too large at byte 1234"
@@ -157,7 +150,8 @@ def test_a_program_is_the_words_that_its_definition_says(library):
 
 def test_a_zeroed_program_and_one_with_a_byte_changed_are_rejected(library):
     calls, right, state = ctypes.CDLL(str(library / "libzsched.so")), program_of(CODE), array([7] * 9)
-    wrong = [[], [0] * 20, [right[0]] + [0] * 19, [right[0], 0, 0, 0], [right[0], 9, 0, 9], program_of([]), program_of([], 0)]
+    wrong = [[], [0] * 20, [right[0]] + [0] * 19, [right[0], 0, 0, 0], [right[0], 9, 0, 9], program_of([]),
+             program_of([], 0)]
     wrong += [[word ^ (0xa5 << bits if at == place else 0) for at, word in enumerate(right)]
               for place in range(len(right)) for bits in range(0, 64, 8)]
     assert {calls.zs_program_begin(*array(words), *state) for words in wrong} == {8} and list(state[0]) == [7] * 9

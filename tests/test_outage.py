@@ -234,7 +234,7 @@ def test_a_plan_that_is_too_long_is_cut_by_its_bytes():
 
 def test_more_bytes_than_a_plan_takes_are_said_before_the_run(capsys):
     with mock.patch.object(program, "MAX_BYTES", 32):
-        command.warn_of_parts(read(SMALL), "steady")
+        command.warn_of_parts("steady", search.schedules_of(read(SMALL), "steady"))
     assert capsys.readouterr().err == (
         "zsched-outage: policy steady: 3 jobs with schedules of 33 bytes are more than one plan of 10,000 jobs and "
         "32 bytes: it is written as JSON lines and parts\n")
@@ -243,7 +243,8 @@ def test_more_bytes_than_a_plan_takes_are_said_before_the_run(capsys):
 @given(st.lists(st.integers(0, 60), max_size=12), st.integers(1, 20), st.integers(0, 40))
 def test_a_peak_is_the_greatest_number_within_any_time_of_its_length(begins, span, since):
     found = curve.Curve([certificate.Client("c", begins, [0] * len(begins), [], bytes(len(begins)), None)])
-    counts = [(sum(since <= it < first + span and it >= first for it in begins), -first) for first in begins if first >= since]
+    counts = [(sum(since <= it < first + span and it >= first for it in begins), -first)
+              for first in begins if first >= since]
     assert found.peak(span, since) == (max(counts, default=None) and (max(counts)[0], -max(counts)[1]))
 
 

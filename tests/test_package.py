@@ -1,5 +1,6 @@
-"""The library's interface, and the packages of the library and its bindings, each as its registry's client unpacks it, for
-the client of its language. Cases of make-deb, make-library, install-library and release are files in tests/cases/."""
+"""The library's interface, and the packages of the library and its bindings, each as its registry's client unpacks it,
+for the client of its language. Cases of make-deb, make-library, install-library and release are files in
+tests/cases/."""
 import contextlib
 import hashlib
 import os
@@ -11,7 +12,7 @@ import subprocess
 import pytest
 
 import languages
-from languages import BINDINGS, CLEAN, CLIENTS, JNA, Client, Place, are_kept, need, ran, request
+from languages import CLEAN, CLIENTS, JNA, Client, Place, are_kept, need, ran, request
 from support import TOP, output_of
 
 VERSION = (TOP / "VERSION").read_text().strip()
@@ -55,7 +56,8 @@ class Root:
         folder = next(self.path.rglob(SONAME)).parent
         (self.path / "etc/ld.so.conf").write_text(f"/{folder.relative_to(self.path)}\n")
         ran(["/sbin/ldconfig", "-r", self.path], self.folder)
-        assert f"{SONAME} (libc6,x86-64) => /{folder.relative_to(self.path)}" in ran(["/sbin/ldconfig", "-r", self.path, "-p"], self.folder)
+        found = ran(["/sbin/ldconfig", "-r", self.path, "-p"], self.folder)
+        assert f"{SONAME} (libc6,x86-64) => /{folder.relative_to(self.path)}" in found
         return self.place(folder)
 
     def place(self, folder):
@@ -68,7 +70,8 @@ class Root:
         return Place(self.path / "usr/include", folder, flags.split())
 
     def dpkg(self, *words):
-        ran(["dpkg", f"--root={self.path}", "--force-not-root", "--force-script-chrootless", "--log=/dev/null", *words], self.folder,
+        ran(["dpkg", f"--root={self.path}", "--force-not-root", "--force-script-chrootless", "--log=/dev/null",
+             *words], self.folder,
             PATH=f"{os.environ['PATH']}:/sbin")
 
     def purge(self):
@@ -99,7 +102,8 @@ def root(tmp_path, library):
 def python(root):
     place = root.debs(DEBS[0], DEBS[2])
     return Client([PYTHON, "-B", CLIENTS / "client.py"],
-                  {"PYTHONPATH": str(root.path / "usr/lib/python3/dist-packages"), "LD_LIBRARY_PATH": str(place.library)})
+                  {"PYTHONPATH": str(root.path / "usr/lib/python3/dist-packages"),
+                   "LD_LIBRARY_PATH": str(place.library)})
 
 
 def packages(root, language):
@@ -110,20 +114,23 @@ def packages(root, language):
 
 def pip(root, package):
     """The client in Python, over a package that pip installs into an empty folder."""
-    ran([PYTHON, "-m", "pip", "install", "--quiet", "--no-index", "--no-deps", "--no-build-isolation", "--target", "site",
+    ran([PYTHON, "-m", "pip", "install", "--quiet", "--no-index", "--no-deps", "--no-build-isolation", "--target",
+         "site",
          package], root.folder)
     assert (root.folder / "site/zsched/py.typed").exists()
     return Client([PYTHON, "-B", CLIENTS / "client.py"], {"PYTHONPATH": str(root.folder / "site")})
 
 
 def wheel(root):
-    """The wheel, which has to keep the rules of auditwheel for its tag: versions of the C library, and no other library."""
+    """The wheel, which has to keep the rules of auditwheel for its tag: versions of the C library, and no other
+    library."""
     made, _ = packages(root, "python")
     client, tag = pip(root, made), re.fullmatch(rf"zsched-{VERSION}-(py3-none-manylinux_2_(\d+)_x86_64).whl", made.name)
     said = next(root.folder.glob("site/zsched-*/WHEEL")).read_text()
     assert f"Root-Is-Purelib: false\nTag: {tag[1]}\n" in said
     headers = output_of(["objdump", "-p", root.folder / "site/zsched/libzsched.so"])
-    assert re.findall(r"NEEDED +(\S+)", headers) == ["libc.so.6"] and re.search(r"STACK .*\n.* flags rw-$", headers, re.M)
+    assert re.findall(r"NEEDED +(\S+)", headers) == ["libc.so.6"] and re.search(r"STACK .*\n.* flags rw-$", headers,
+                                                                                re.M)
     assert all(int(minor) <= int(tag[2]) for minor in re.findall(r"GLIBC_2\.(\d+)", headers))
     return client
 
@@ -133,7 +140,8 @@ def crate(root):
     need("cargo")
     shutil.unpack_archive(packages(root, "rust")[0], root.folder, "gztar")
     folder = root.folder / f"zsched-{VERSION}"
-    ended = subprocess.run(["cargo", "package", "--offline", "--allow-dirty"], cwd=folder, capture_output=True, text=True,
+    ended = subprocess.run(["cargo", "package", "--offline", "--allow-dirty"], cwd=folder, capture_output=True,
+                           text=True,
                            check=False, env={**CLEAN, "CARGO_TARGET_DIR": str(root.folder / "made")})
     assert ended.returncode == 0 and "warning" not in ended.stderr, ended.stderr
     shutil.unpack_archive(root.folder / f"made/package/zsched-{VERSION}.crate", root.folder / "registry", "gztar")
@@ -141,12 +149,16 @@ def crate(root):
 
 
 def npm(root):
-    """The client in JavaScript, over the package that npm installs. Elsewhere an error says for which machines it is."""
+    """The client in JavaScript, over the package that npm installs. Elsewhere an error says for which machines it
+    is."""
     need("npm")
-    ran(["npm", "install", "--offline", "--no-audit", "--no-fund", *packages(root, "node")], root.folder, npm_config_cache="cache")
-    ended = subprocess.run(["node", "-e", "require('zsched')"], cwd=root.folder, capture_output=True, text=True, check=False,
+    ran(["npm", "install", "--offline", "--no-audit", "--no-fund", *packages(root, "node")], root.folder,
+        npm_config_cache="cache")
+    ended = subprocess.run(["node", "-e", "require('zsched')"], cwd=root.folder, capture_output=True, text=True,
+                           check=False,
                            env=CLEAN | {"ZSCHED_NODE": "/nowhere"})
-    assert "Error: zsched: /nowhere can't be loaded on linux on x64. The package has it for Linux on x64" in ended.stderr
+    assert ("Error: zsched: /nowhere can't be loaded on linux on x64. The package has it for Linux on x64"
+            in ended.stderr)
     shutil.copy(CLIENTS / "client.js", root.folder)
     return Client(["node", root.folder / "client.js"], {})
 
@@ -165,7 +177,8 @@ def maven(root):
     (root.folder / "src/main/java").mkdir(parents=True)
     shutil.copy(CLIENTS / "Client.java", root.folder / "src/main/java")
     needed = f"<groupId>io.github.zsched</groupId><artifactId>zsched</artifactId><version>{VERSION}</version>"
-    (root.folder / "pom.xml").write_text(made[-1].read_text().replace("<artifactId>zsched<", "<artifactId>client<").replace(
+    (root.folder / "pom.xml").write_text(made[-1].read_text().replace("<artifactId>zsched<",
+                                                                      "<artifactId>client<").replace(
         "<dependencies>", f"<dependencies><dependency>{needed}</dependency>"))
     ran(["mvn", "--offline", "--quiet", "-Dmaven.repo.local=repository", "compile"], root.folder)
     return Client(["java", "-cp", f"{JNA}:{made[0]}:{root.folder / 'target/classes'}", "Client"], {})
@@ -179,7 +192,8 @@ INSTALLED = {
     "C++": lambda root: languages.c(root.folder, root.place(install(root)), compiler=languages.CPP)}
 
 
-@pytest.mark.parametrize("name", [pytest.param(it, marks=[pytest.mark.full] * (it in ["jar", "Maven"])) for it in INSTALLED])
+@pytest.mark.parametrize("name",
+                         [pytest.param(it, marks=[pytest.mark.full] * (it in ["jar", "Maven"])) for it in INSTALLED])
 def test_a_client_of_what_is_installed_retries_and_steps(name, root):
     client = INSTALLED[name](root)
     for text, code, times, wanted, waits in [(POLICY, 503, 3, "done", [40, 80, 100]), (POLICY, 404, 9, "404", []),

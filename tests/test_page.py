@@ -19,7 +19,7 @@ import reference
 from browser import framed, inside, opened
 from mistakes import MISTAKES, split
 from reports import jobs_of
-from support import TOP, examples, plan, plans_with_reports, report_beside, rows
+from support import TOP, examples, plan, plans_with_reports, rows
 from zsched_tools import drawn, hints, schedule_rules
 from zsched_tools.place import FaultAt
 from zsched_tools.policy import command
@@ -57,13 +57,8 @@ def answer(page, text):
     return status, report.encode(), fault.encode()
 
 
-@pytest.mark.parametrize("path", plans_with_reports(), ids=lambda path: path.stem)
-def test_the_evaluator_gives_the_report_beside_a_plan(page, path):
-    assert answer(page, path.read_bytes()) == (0, report_beside(path), b"") == reference.answer(path.read_bytes())
-
-
-@pytest.mark.parametrize("text, wanted", [it for it in faults.outcomes() if "1,000,001" not in it.id])
-def test_the_evaluator_has_each_fault_and_accepts_plans_at_the_limits(page, text, wanted):
+@pytest.mark.parametrize("text, wanted", faults.answers())
+def test_the_evaluator_gives_each_fault_and_each_report_also_of_plans_at_the_limits(page, text, wanted):
     assert answer(page, text) == wanted
 
 
@@ -99,20 +94,24 @@ def test_bounds_are_those_of_the_interval_run(page, texts, least, steps=120):
         found, wanted = page("page.bounds", text, steps, durations), bounds.bounds(
             reference.read_schedule(text.encode()), durations, steps)
         numbers = [found[key] and int(found[key]) for key in ["longest", "total", "run", "seen", "least", "most"]]
-        assert numbers == [*list(wanted.values())[2:], *wanted["attempts"].values()], text
+        assert [found["isEndless"], *numbers] == [*list(wanted.values())[2:], *wanted["attempts"].values()], text
         assert found["isCut"] or wanted["attempts"]["most"] is not None or wanted["steps_seen"] < steps, text
     assert len(short) > least
 
 
 def wrong_schedules():
-    """Schedules with a mistake: those of mistakes.tsv, names and symbols of others, and a good one that is cut or changed."""
+    """Schedules with a mistake: those of mistakes.tsv, names and symbols of others, and a good one that is cut or
+    changed."""
     good = "((exponential(100, 2) || spaced(2000)).map(_1) && identity.whileInput(>= 500)).resetWhen(_2 = 4).collectAll"
     yield from (json.loads(split(marked)[0])["jobs"][0]["schedule"] for _, marked, fault, _ in MISTAKES
                 if fault.startswith("job 0: schedule: "))
-    yield from (form.format(name) for name in hints.ZIO for form in ["{}(3)", "recurs(3).{}(5)", "(recurs(3) {} forever)"])
-    yield from (form.format(it) for it in hints.SYMBOLS for form in ["(recurs(3) {} forever)", "forever.whileInput({} 5)"])
+    yield from (form.format(name) for name in hints.ZIO
+                for form in ["{}(3)", "recurs(3).{}(5)", "(recurs(3) {} forever)"])
+    yield from (form.format(it) for it in hints.SYMBOLS
+                for form in ["(recurs(3) {} forever)", "forever.whileInput({} 5)"])
     for at in range(len(good)):
-        yield from (good[:at] + more + good[at + size:] for size in [0, 1, 2] for more in ["", *"().,;&|<=_1x5-é", "5s", "&& "])
+        yield from (good[:at] + more + good[at + size:] for size in [0, 1, 2]
+                    for more in ["", *"().,;&|<=_1x5-é", "5s", "&& "])
 
 
 def said_by_tools(text, fault, zsched):

@@ -75,7 +75,8 @@ def test_a_plan_cut_anywhere_is_rejected(tmp_path):
 def test_a_large_population_is_split_in_little_memory(tmp_path):
     lines = "".join(f"{job(f'job-{number:07}')}\n" for number in range(60_000))
     (tmp_path / "plan").write_text(f'{{"horizon":1000}}\n{lines}')
-    code = ("import zsched_tools.plan.command, zsched_tools.plan.split as it\nit.write_parts('plan', True, 10000, 'parts')\n"
+    code = ("import zsched_tools.plan.command, zsched_tools.plan.split as it\n"
+            "it.write_parts('plan', True, 10000, 'parts')\n"
             "print(next(line.split()[1] for line in open('/proc/self/status') if line.startswith('VmHWM')))")
     said = output_of([sys.executable, "-c", code], cwd=tmp_path, env={"PYTHONPATH": str(TOP / "tools")})
     assert len(list((tmp_path / "parts").iterdir())) == 7 and int(said) < 40_000

@@ -15,7 +15,7 @@ from unittest import mock
 import pytest
 
 from browser import inside, opened
-from support import ONE_JOB, TOP, executable, rows, run, run_tool
+from support import TOP, executable, rows, run, run_tool
 from zsched_tools.play import command
 
 TOOL = TOP / "tools" / "zsched-play"
@@ -77,14 +77,13 @@ def test_the_page_says_what_holds_for_every_input(url):
         assert asked(url, question(policy), f"/report{query}")["bounds"] == {policy: said + end}
 
 
-@pytest.mark.parametrize("status, schedules, wanted", [
-    (0, ["recurs(3)"], {"recurs(3)": "4 attempts, always; no waits"}), (4, ["recurs(3)"], {}),
-    (None, ["recurs(3)"], {}), (0, ["recurs(0)", "recurs(1)", "recurs(2)"], {})],
-    ids=["good", "failed", "without", "of three policies"])
-def test_bounds_are_left_out_if_there_are_none(zsched, tmp_path, status, schedules, wanted):
-    line = ('{"policy":"","attempt":{"least":1,"most":null},"attempts":{"least":4,"most":4},"longest_wait":0,'
-            '"total_wait":0,"longest_run":null,"steps_seen":4}')
-    bounds = None if status is None else executable(tmp_path / "bounds", f"cat > /dev/null\necho '{line}'\nexit {status}")
+# The status of the program of bounds, or null for none, the policies, and what is said of them.
+@pytest.mark.parametrize("name, status, schedules, wanted", rows("left_out_bounds.jsonl"))
+def test_bounds_are_left_out_if_there_are_none(zsched, tmp_path, name, status, schedules, wanted):
+    line = ('{"policy":"","attempt":{"least":1,"most":null},"attempts":{"least":4,"most":4},"never_gives_up":false,'
+            '"longest_wait":0,"total_wait":0,"longest_run":null,"steps_seen":4}')
+    bounds = None if status is None else executable(tmp_path / "bounds",
+                                                    f"cat > /dev/null\necho '{line}'\nexit {status}")
     assert command.answer(zsched, question(schedules=schedules), 10, bounds)["bounds"] == wanted
 
 
@@ -120,8 +119,10 @@ def test_a_long_report_is_cut(zsched):
     assert len(found["report"]) <= 500 and report.startswith(found["report"]) and found["report"].endswith("\n")
 
 
-# Requests: method, path, body (or how many spaces it has), headers, in which PORT is the server's, and the response's status.
-@pytest.mark.parametrize("name, method, path, body, headers, status", rows("requests.jsonl"), ids=lambda it: str(it)[:30])
+# Requests: method, path, body (or how many spaces it has), headers, in which PORT is the server's, and the response's
+# status.
+@pytest.mark.parametrize("name, method, path, body, headers, status", rows("requests.jsonl"),
+                         ids=lambda it: str(it)[:30])
 def test_requests_that_are_taken_and_rejected(url, name, method, path, body, headers, status):
     body = b" " * body if isinstance(body, int) else body and body.encode()
     port = str(urllib.parse.urlsplit(url).port)
@@ -130,15 +131,13 @@ def test_requests_that_are_taken_and_rejected(url, name, method, path, body, hea
     assert found == status and (status != 405 or said["Allow"] == ("GET, HEAD" if path == "/" else "POST"))
 
 
-def test_the_page_loads_nothing_from_elsewhere(url):
-    status, headers, body = request(url, "GET", "/?schedule=forever")
-    assert (status, body.decode(), len(SERVED) - len(PAGE)) == (200, SERVED, 3)
+@pytest.mark.parametrize("method, path, wanted", [
+    ("GET", "/?schedule=forever", SERVED), ("HEAD", "/", "")], ids=["GET", "HEAD"])
+def test_the_page_loads_nothing_from_elsewhere_and_head_has_no_body(url, method, path, wanted):
+    status, headers, body = request(url, method, path)
+    assert (status, body.decode(), len(SERVED) - len(PAGE)) == (200, wanted, 3)
+    assert headers["Content-Length"] == str(len(SERVED.encode()))
     assert headers["Content-Security-Policy"].startswith("default-src 'none'; ")
-
-
-def test_head_has_no_body(url):
-    status, headers, body = request(url, "HEAD", "/")
-    assert (status, headers["Content-Length"], body) == (200, str(len(SERVED.encode())), b"")
 
 
 def test_a_request_of_two_hosts_is_rejected_and_a_browser_that_goes_away_does_no_harm(url):

@@ -32,7 +32,8 @@ def zsched(library):
 
 @contextlib.contextmanager
 def flaky(*codes):
-    """A server on this machine that responds with these codes in turn, then with the last one: its URL, and when it did."""
+    """A server on this machine that responds with these codes in turn, then with the last one: its URL, and when it
+    did."""
     moments = []
 
     class Handler(http.server.BaseHTTPRequestHandler):
@@ -41,9 +42,6 @@ def flaky(*codes):
             self.send_response(codes[min(len(moments), len(codes)) - 1])
             self.end_headers()
             self.wfile.write(b"ready")
-
-        def log_message(self, *_):
-            pass
     with http.server.HTTPServer(("127.0.0.1", 0), Handler) as server:
         threading.Thread(target=server.serve_forever, args=[0.01]).start()
         yield f"http://127.0.0.1:{server.server_port}/", moments
@@ -62,6 +60,9 @@ class Clock:
     def sleep(self, seconds):
         self.slept.append(round(seconds, 6))
         self.seconds += seconds
+
+    async def sleep_async(self, seconds):
+        self.sleep(seconds)
 
     def failing(self, times, error=OSError):
         """An effect that fails some times, each time after 5 ms."""
@@ -92,7 +93,8 @@ def test_a_fault_has_its_text_number_and_place(zsched):
         with pytest.raises(zsched.ScheduleFault) as caught:
             call("recurs(1) && recurs(2)")
         fault = caught.value
-        assert (fault.text, fault.number, fault.at, str(fault)) == ("recurs(1) && recurs(2)", 11, 10, "no term at byte 10")
+        assert (fault.text, fault.number, fault.at, str(fault)) == ("recurs(1) && recurs(2)", 11, 10,
+                                                                    "no term at byte 10")
 
 
 def test_numbers_of_steps_that_bounds_take(zsched):
@@ -113,7 +115,8 @@ def test_a_policy_is_within_its_bounds_and_not_within_less(zsched):
     assert [found.within(most, total) for most, total in [(6, 3100), (9, 5000), (5, 3100), (6, 3099), (0, 0)]] == [
         True, True, False, False, False]
     # It may end at any step; it continues at the last step; three waits of up to 2^64 - 1 have no sum.
-    for text, steps in [("forever.whileInput(= 1)", 1000), ("recurs(5)", 5), ("(fixed(18446744073709551615) && recurs(3))", 9)]:
+    for text, steps in [("forever.whileInput(= 1)", 1000), ("recurs(5)", 5),
+                        ("(fixed(18446744073709551615) && recurs(3))", 9)]:
         assert not zsched.bounds(text, steps).within(2 ** 64, 2 ** 64)
     assert zsched.bounds("recurs(5)", 6).within(6, 0)
 
@@ -127,7 +130,8 @@ def test_a_step_that_is_refused_leaves_the_schedule(zsched, kind, first, second)
     made = getattr(zsched, kind)("recurs(1)")
     assert seen_of(made) == first
     assert made.after(5, 7) == (5, "0", 1)
-    for error, moment, value in [(ValueError, 4, 7), (OverflowError, -1, 7), (OverflowError, 5, 2 ** 64), (TypeError, 5.0, 7)]:
+    for error, moment, value in [(ValueError, 4, 7), (OverflowError, -1, 7), (OverflowError, 5, 2 ** 64),
+                                 (TypeError, 5.0, 7)]:
         with pytest.raises(error):
             made.after(moment, value)
     assert seen_of(made) == second
@@ -175,7 +179,8 @@ def test_threads_may_call_at_once(zsched):
 
 
 def test_a_missing_library_names_the_command_that_makes_it(tmp_path):
-    words = [sys.executable, "-B", "-c", "try:\n import zsched; zsched.check('forever')\nexcept OSError as fault:\n print(fault)"]
+    words = [sys.executable, "-B", "-c",
+             "try:\n import zsched; zsched.check('forever')\nexcept OSError as fault:\n print(fault)"]
     said = ran(words, tmp_path, ZSCHED_LIBRARY="/nowhere/libzsched.so", PYTHONPATH=BINDINGS / "python")
     assert re.match(r"/nowhere/libzsched.so: .* build/make-library", said)
 
@@ -185,7 +190,8 @@ def test_a_missing_library_names_the_command_that_makes_it(tmp_path):
     ("(linear(10) && recurs(5)).collectAll", {}, 3, OSError, None, [0.01, 0.02, 0.03]),
     ("(spaced(30) && recurs(2))", {}, 10, OSError, "^7 left$", [0.03, 0.03]),
     ("spaced(30)", {"on": (OSError, EOFError)}, 10, KeyError, "left", []),
-    ("spaced(30).whileInput(> 7)", {"input_of": lambda error: int(str(error)[0])}, 10, OSError, "^7 left$", [0.03] * 2)],
+    ("spaced(30).whileInput(> 7)", {"input_of": lambda error: int(str(error)[0])}, 10, OSError, "^7 left$",
+     [0.03] * 2)],
     ids=["it returns", "a list", "the last error", "another error", "its input"])
 def test_a_function_is_tried_until_the_schedule_is_done(retrying, clock, text, more, times, error, wanted, slept):
     told = []
@@ -213,10 +219,8 @@ COROUTINES = {"a loop": None, "an object": Asynchronous, "a method": lambda effe
 
 @pytest.mark.parametrize("form", COROUTINES)
 def test_what_returns_a_coroutine_is_awaited_each_time(zsched, retrying, clock, form):
-    async def sleep(seconds):
-        clock.sleep(seconds)
     effect, budget = clock.failing(2), zsched.Budget(9, 2)
-    by = retrying("linear(10)", sleep=sleep, budget=budget)
+    by = retrying("linear(10)", sleep=clock.sleep_async, budget=budget)
 
     async def loop():
         async for attempt in by:
@@ -256,14 +260,11 @@ def test_what_would_be_tried_once_or_never_awaited_is_an_error(retrying, tried, 
 def test_a_result_may_count_as_an_error(retrying, clock, is_late):
     results, said = iter([503, 503, 429, 200]), []
 
-    async def sleep(seconds):
-        clock.sleep(seconds)
-
     async def fetched():
         return next(results)
     by = retrying("(spaced(10) && recurs(5)).whileInput(>= 500)", retry_on_result=lambda code: code >= 400,
                   input_of=lambda code: code, before_sleep=lambda *words: said.append(words),
-                  on_give_up=lambda *words: said.append(words), **({"sleep": sleep} if is_late else {}))
+                  on_give_up=lambda *words: said.append(words), **({"sleep": clock.sleep_async} if is_late else {}))
     tried = by(fetched if is_late else lambda: next(results))
     assert (asyncio.run(tried()) if is_late else tried()) == 429
     assert said == [(503, 1, 0.011), (503, 2, 0.011), (429, 3)] and clock.slept == [0.011] * 2
@@ -333,7 +334,8 @@ def test_many_attempts_keep_no_list(zsched, retrying, clock):
 
 
 def test_the_example_waits_for_its_server(library, tmp_path):
-    said = ran([sys.executable, "-B", BINDINGS / "python" / "example.py"], tmp_path, ZSCHED_LIBRARY=library / "libzsched.so")
+    said = ran([sys.executable, "-B", BINDINGS / "python" / "example.py"], tmp_path,
+               ZSCHED_LIBRARY=library / "libzsched.so")
     assert "ready after 4 attempts\n" in said and re.search("^attempt 3: 503, the next one in 8[01] ms$", said, re.M)
 
 

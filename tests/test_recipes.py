@@ -68,7 +68,8 @@ def test_lines_shown_are_lines_of_the_report(section):
 
 
 def blocks():
-    """The title of each section of commands, its files by name, and each of its commands with the output that is shown."""
+    """The title of each section of commands, its files by name, and each of its commands with the output that is
+    shown."""
     for section in COMMANDS:
         found = BLOCK.findall(section)
         files = [text for language, text in found if language not in ("sh", "text")]
@@ -76,7 +77,8 @@ def blocks():
         for (language, text), after in zip(found, [*found[1:], ("", "")]):
             if language == "sh":
                 marks = pytest.mark.full if "pandas" in text else ()
-                yield pytest.param(named, text, after[1] if after[0] == "text" else None, marks=marks, id=title_of(section))
+                yield pytest.param(named, text, after[1] if after[0] == "text" else None, marks=marks,
+                                   id=title_of(section))
 
 
 @pytest.mark.parametrize("files, command, shown", blocks())

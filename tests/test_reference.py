@@ -12,7 +12,7 @@ import faults
 import generator
 import reference
 import reports
-from support import job, plan, plans_with_reports, report_beside, run
+from support import job, plan, run
 
 MOST_ATTEMPTS = 2100
 PLANS = 2000
@@ -26,14 +26,8 @@ def test_random_plans_agree_with_the_reference(chunk, zsched):
     generator.hold(chunk, agrees, generator.made(generator.any_plan))
 
 
-@pytest.mark.parametrize("path", plans_with_reports(), ids=lambda path: path.stem)
-def test_the_reference_gives_the_report_beside_a_plan(path):
-    assert reference.answer(path.read_bytes()) == (0, report_beside(path), b"")
-
-
-# 1,000,001 ticks take the reference long.
-@pytest.mark.parametrize("text, wanted", [it for it in faults.outcomes() if "1,000,001" not in it.id])
-def test_the_reference_gives_each_fault_and_accepts_plans_at_the_limits(text, wanted):
+@pytest.mark.parametrize("text, wanted", faults.answers())
+def test_the_reference_gives_each_fault_and_each_report_also_of_plans_at_the_limits(text, wanted):
     assert reference.answer(text) == wanted
 
 
@@ -52,7 +46,8 @@ def test_random_plans_have_each_fault_and_each_ending_and_need_threads():
         due = collections.Counter(moment for it in jobs for moment in it.moments)
         shared += bool(jobs) and max(due.values(), default=0) > json.loads(text).get("grain", 1)
     wanted = {re.sub(r"\d+", "N", f"zsched: {fault.text}\n") for fault in faults.table()} | {
-        "", "retry succeeded", "retry failed", "retry unfinished", "repeat finished", "repeat failed", "repeat unfinished"}
+        "", "retry succeeded", "retry failed", "retry unfinished", "repeat finished", "repeat failed",
+        "repeat unfinished"}
     assert set(found) == wanted
     assert found[""] > PLANS // 2 < 3 * shared
 

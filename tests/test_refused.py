@@ -1,7 +1,5 @@
 """Each allocation fails in turn, in a single call and in whole runs; and a machine on which no thread can be started."""
-import functools
 import re
-import resource
 from typing import NamedTuple
 
 import pytest
@@ -93,40 +91,24 @@ def test_allocations_fail_all_over_a_large_run(jobs, workers, grain, zsched, ref
 
 
 # Three workers need two starts of threads at each of three moments, two batches need one, and one batch needs none.
-THREADS = [
-    *[(jobs, 3, 1, number, number > 6) for jobs in ["heavy", 7] for number in range(1, 8)],
-    *[(jobs, workers, grain, number, number > 3)
-      for jobs, workers, grain in [("heavy", 4, 60), (7, 64, 4)] for number in [3, 4]],
-    ("heavy", 2, 3, 1, False), ("heavy", 1, 3, 1, True), ("heavy", 4, 120, 1, True), (10_000, 4, 10_000, 1, True)]
-
-
-@pytest.mark.parametrize("jobs, workers, grain, number, is_enough", THREADS)
+@pytest.mark.parametrize("jobs, workers, grain, number, is_enough", support.rows("no_threads.jsonl"))
 def test_no_thread_can_be_started_from_one_on(jobs, workers, grain, number, is_enough, zsched, refuser):
     text, report = plan_of(jobs, workers, grain)
     wanted = (0, report, b"") if is_enough else NO_THREAD
     assert difference(refuser.run(zsched, text, threads=number).ended, wanted) is None
 
 
-@pytest.mark.parametrize("failures, wanted", [
-    ({"within": 1}, NO_MEMORY), ({"within": 2}, NO_MEMORY), ({"threads": 2}, NO_THREAD),
-    ({"within": 1, "threads": 2}, NO_MEMORY)], ids=[
-    "the second worker has no memory", "the third worker has no memory", "the third worker can't be started",
-    "the second worker has no memory and the third can't be started"])
-def test_of_two_causes_the_first_workers_is_reported(failures, wanted, zsched, refuser):
-    assert refuser.run(zsched, plan_of("heavy", 3, 1)[0], **failures).ended == wanted
-
-
-def limited(program, text, millions):
-    """How a program ends with a limit of some million bytes on all of its memory."""
-    limit = (millions * 1_000_000, millions * 1_000_000)
-    return support.run(program, text, preexec_fn=functools.partial(resource.setrlimit, resource.RLIMIT_AS, limit))
+@pytest.mark.parametrize("name, failures, said", support.rows("two_causes.jsonl"))
+def test_of_two_causes_the_first_workers_is_reported(name, failures, said, zsched, refuser):
+    assert refuser.run(zsched, plan_of("heavy", 3, 1)[0], **failures).ended == (4, b"", f"zsched: {said}\n".encode())
 
 
 @pytest.mark.parametrize("millions", LIMITS)
 def test_ten_thousand_jobs_within_a_limit(millions, zsched):
     text, report = plan_of(10_000, 2, 3)
     ends = {4: [NO_MEMORY], 256: [(0, report, b"")]}
-    assert limited(zsched, text, millions) in ends.get(millions, [(0, report, b""), NO_MEMORY, NO_THREAD])
+    ended = support.run(["prlimit", f"--as={millions}000000", zsched], text)
+    assert ended in ends.get(millions, [(0, report, b""), NO_MEMORY, NO_THREAD])
 
 
 class Population:
@@ -185,5 +167,5 @@ def test_allocations_fail_all_over_three_blocks(workers, grain, population, refu
 @pytest.mark.parametrize("millions", [limit for limit in LIMITS if limit != 64])
 def test_three_blocks_within_a_limit(millions, population):
     jobs = Population(2 * BLOCK_OF_JOBS + 3, 1, 1)
-    place = jobs.place(limited(population, jobs.text, millions))
+    place = jobs.place(support.run(["prlimit", f"--as={millions}000000", population], jobs.text))
     assert millions not in (4, 256) or (place is None) == (millions == 256)

@@ -11,9 +11,9 @@ import sys
 import pytest
 
 from generator import made_plan
-from report_samples import KNOWN, NEVER, NO_REPORTS, REPORTS, RETRIED, RUNNING, WAITING, long_report, wide_report
+from report_samples import KNOWN, NEVER, REPORTS, RETRIED, RUNNING, WAITING, long_report, wide_report
 from reports import jobs_of
-from support import TOP, examples, run
+from support import TOP, examples, rows, run
 from zsched_tools import load, progress
 from zsched_tools.command import Refused
 from zsched_tools.report import lines
@@ -83,7 +83,8 @@ def test_a_report_is_made_again_from_its_json_lines_byte_for_byte(path):
     assert fault is None and outcome(lambda write: lines.write_report(io.StringIO(made), write)) == (text, None)
 
 
-@pytest.mark.parametrize("text, beginning", NO_REPORTS, ids=[text[:40] for text, _ in NO_REPORTS])
+# Texts that aren't reports, and the beginning of the error.
+@pytest.mark.parametrize("text, beginning", rows("no_reports.jsonl"), ids=lambda it: it[:40])
 def test_another_text_is_rejected_with_the_line(text, beginning):
     assert json_lines(text)[1].startswith(beginning)
 
@@ -129,20 +130,6 @@ def test_a_long_command_shows_its_progress_on_a_terminal(is_terminal, first, sho
     assert re.fullmatch(shown, terminal.getvalue())
 
 
-TWO_POLICIES = (TOP / "examples" / "two_policies.json.stdout").read_text()
-
-
-@pytest.mark.parametrize("text", [*REPORTS, wide_report(8, 4), long_report(40), "polls 0\n"], ids=range(9))
-def test_json_lines_have_the_attempts_and_the_endings_of_a_report(text):
-    assert json_lines(text) == (lines_of(text), None)
-
-
-@pytest.mark.parametrize("path", KNOWN, ids=lambda path: path.stem)
-def test_json_lines_are_those_of_the_reader_of_the_tests(path):
-    text = path.read_text()
-    assert json_lines(text) == (lines_of(text), None)
-
-
 def repeated(chance, text, jobs):
     """A report of `jobs` jobs, each with the lines of one of a report's."""
     parts = ("\n" + text[:text.rindex("polls ", 0, -1)]).split("\njob ")[1:]
@@ -151,10 +138,16 @@ def repeated(chance, text, jobs):
     return f"{made}polls {sum(map(int, re.findall(r'^end .* polls (.*)$', made, re.M)))}\n"
 
 
-@pytest.mark.parametrize("text", [RETRIED, RUNNING, WAITING, NEVER, TWO_POLICIES], ids=range(5))
-def test_jobs_with_equal_lines_have_equal_json_lines(text):
-    equal = repeated(random.Random(3), text, 50)
-    assert json_lines(equal) == (lines_of(equal), None)
+TWO_POLICIES = (TOP / "examples" / "two_policies.json.stdout").read_text()
+# Reports of all forms, the last ones of jobs with equal lines.
+TEXTS = {path.stem: path.read_text() for path in KNOWN} | dict(enumerate([
+    *REPORTS, wide_report(8, 4), long_report(40), "polls 0\n",
+    *[repeated(random.Random(3), text, 50) for text in [RETRIED, RUNNING, WAITING, NEVER, TWO_POLICIES]]]))
+
+
+@pytest.mark.parametrize("name", TEXTS)
+def test_json_lines_have_the_attempts_and_the_endings_of_a_report(name):
+    assert json_lines(TEXTS[name]) == (lines_of(TEXTS[name]), None)
 
 
 def changed(chance):

@@ -9,7 +9,8 @@ from support import TOP
 
 PRODUCT = re.findall(r"^(\w+)[\w ]*:", (TOP / "crates.txt").read_text().partition("# Laws and tests.")[0], re.M)
 SOURCES, SPECS = ({str(path.relative_to(TOP)): path.read_text() for crate in PRODUCT
-                   for path in sorted((TOP / "crates" / crate).glob(form))} for form in ["src/**/*.rt", "specs/**/*.antt"])
+                   for path in sorted((TOP / "crates" / crate).glob(form))}
+                   for form in ["src/**/*.rt", "specs/**/*.antt"])
 # In the layout of `rt fmt`: a function with an empty body, one without a body, or one with a body.
 FUNCTION = re.compile(r'^( *)(pub )?(?:pub\(crate\) )?(?:const |unsafe |extern "C" )*fn (\w+)(?:.*\{\}$|'
                       r"(?:(?!\1\{?\}$).*[^{\n]\n)*?.*;$|(?s:.*?)^\1\{?\}$)", re.M)
@@ -45,15 +46,18 @@ def count_parameters(text):
 # Each rule: what breaks it, and a text that does.
 RULES = {
     "a function has at most 50 lines": (
-        lambda sources, _: [it.at for it in functions(sources) if it.text.count("\n") >= 50], "fn f() {" + "\n" * 50 + "}"),
+        lambda sources, _: [it.at for it in functions(sources) if it.text.count("\n") >= 50],
+        "fn f() {" + "\n" * 50 + "}"),
     "a function has at most 7 parameters": (
-        lambda sources, _: [it.at for it in functions(sources) if it.name not in CALLED and count_parameters(it.text) > 7],
+        lambda sources,
+        _: [it.at for it in functions(sources) if it.name not in CALLED and count_parameters(it.text) > 7],
         "fn f<A, B>(a: (A, B), b: A, c: A, d: A, e: A, f: A, g: A, h: A) {}\n"),
     "a public function has a contract and a line of comment": (
         lambda sources, _: [it.at for it in functions(sources) if it.is_public and not (
             "///" in it.comment and re.search("\n +(requires|ensures) ", it.text))], "/// Does it.\npub fn f() {}\n"),
     "a line of specs has at most 100 columns": (
-        lambda _, specs: [place(*it, at.start()) for it in specs.items() for at in re.finditer(".{101,}", it[1])], "-" * 101),
+        lambda _, specs: [place(*it, at.start()) for it in specs.items() for at in re.finditer(".{101,}", it[1])],
+        "-" * 101),
     "a file of src has at most 400 lines": (
         lambda sources, _: [path for path, text in sources.items() if text.count("\n") > 400], "\n" * 401)}
 

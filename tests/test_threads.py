@@ -1,7 +1,7 @@
 """Counts the threads that the program starts, on plans and cuts of which the number follows from the report.
 
-In a round min(workers, batches) workers process the batches, and the calling thread is one of them. A job is polled once
-at each moment at which one of its attempts begins or ends, as the report has them. refuse.c counts the starts."""
+In a round min(workers, batches) workers process the batches, and the calling thread is one of them. A job is polled
+once at each moment at which one of its attempts begins or ends, as the report has them. refuse.c counts the starts."""
 import collections
 import json
 

@@ -1,8 +1,8 @@
 """The program under valgrind on a dozen plans and on many jobs, each cut in several ways: by memcheck, and if there are
 several workers by helgrind and drd. The rounds of the jobs with 998 nodes start threads.
 
-Each report has to be the right one. memcheck has to name no error and no lost memory. helgrind and drd may name only reads
-of a queue's places by the queue itself, as docs/TESTING.md explains."""
+Each report has to be the right one. memcheck has to name no error and no lost memory. helgrind and drd may name only
+reads of a queue's places by the queue itself, as docs/TESTING.md explains."""
 import xml.etree.ElementTree
 
 import pytest
@@ -36,7 +36,8 @@ def case(name, workers, grain):
 
 
 def is_of_queue(error):
-    """Whether an error is an access to a queue's places, which another thread wrote without a lock, made by the queue."""
+    """Whether an error is an access to a queue's places, which another thread wrote without a lock, made by the
+    queue."""
     place = error.findtext("stack/frame/fn") or ""
     return error.findtext("kind") in ["Race", "ConflictingAccess"] and place.startswith("crossbeam_queue::")
 

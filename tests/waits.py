@@ -1,5 +1,6 @@
 #!/usr/bin/env python3
-"""Prints the first N waits of each schedule of standard input, as 250*3 for three of 250 ms, and `end` if it gives up."""
+"""Prints the first N waits of each schedule of standard input, as 250*3 for three of 250 ms, and `end` if it gives
+up."""
 import itertools
 import json
 import os

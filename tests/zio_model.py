@@ -1,7 +1,7 @@
 """Schedules of ZIO 2 by the definitions of its sources, as far as the tables in docs/RECIPES.md speak of them.
 
-The tests compare these tables with it. Nothing here depends on zsched's results, except for the text of outputs. What is
-named here has its name in ZIO, with `_` for a capital.
+The tests compare these tables with it. Nothing here depends on zsched's results, except for the text of outputs. What
+is named here has its name in ZIO, with `_` for a capital.
 
 A schedule is a first state and a step: from a moment, an input and a state to a state, an output and the moment of the
 next run, or None if it is done. Intervals are open to the right, so a moment represents one. Moments are in

@@ -1,4 +1,5 @@
 import java.io.BufferedReader;
+import java.io.IOException;
 import java.io.InputStreamReader;
 import java.nio.charset.StandardCharsets;
 import java.time.Duration;
@@ -13,14 +14,6 @@ import zsched.Stepper;
 
 /** The client of the library in Java. client.c documents the requests and the lines. */
 public final class Client {
-    private static final class Failing extends Exception {
-        private static final long serialVersionUID = 1;
-
-        Failing(long code) {
-            super(Long.toUnsignedString(code));
-        }
-    }
-
     private static final Budget BUDGET = new Budget(10, 0.5);
 
     private static String word(Schedule.Answer step) {
@@ -49,11 +42,11 @@ public final class Client {
             said.add(0, (numbers.length > 2 ? optioned(retry, numbers, said) : retry).call(() -> {
                 said.add((System.nanoTime() - begun) / 1000);
                 if (attempts[0]++ < numbers[1]) {
-                    throw new Failing(numbers[0]);
+                    throw new IOException(Long.toUnsignedString(numbers[0]));
                 }
                 return "done";
             }));
-        } catch (Failing error) {
+        } catch (IOException error) {
             said.add(0, error.getMessage());
         }
     }

@@ -67,10 +67,7 @@ void *__real_malloc(size_t size);
 void *__real_realloc(void *place, size_t size);
 void __real_free(void *place);
 
-static int is_refused(void)
-{
-    return __atomic_add_fetch(&asked, 1, __ATOMIC_SEQ_CST) == refused_at;
-}
+static int is_refused(void) { return __atomic_add_fetch(&asked, 1, __ATOMIC_SEQ_CST) == refused_at; }
 
 void *__wrap_malloc(size_t size)
 {
@@ -104,10 +101,7 @@ static void hold(int is_well, const request *it, const char *what)
         exit(1);
 }
 
-static void drop(void *place)
-{
-    __real_free(*(void **)place);
-}
+static void drop(void *place) { __real_free(*(void **)place); }
 
 /* What frees a block, and the words of a schedule, where its name ends. */
 #define OWN __attribute__((cleanup(drop)))
@@ -329,10 +323,7 @@ static void step_many(const request *it)
     }
 }
 
-static int is(const request *it, const char *command)
-{
-    return strcmp(it->command, command) == 0;
-}
+static int is(const request *it, const char *command) { return strcmp(it->command, command) == 0; }
 
 /* Runs a request, and returns its line. */
 static char *served(const request *it)
@@ -435,14 +426,8 @@ int main(int count, char **words)
     }
     if (count > 1 && *words[1] == 't')
         run_at_once();
-    for (size_t i = 0; i < request_count; i++) {
+    for (size_t i = 0; i < request_count; i++)
         if (requests[i].answer)
             puts(requests[i].answer + (*requests[i].answer == ' '));
-        __real_free(requests[i].command);
-        __real_free(requests[i].text);
-        __real_free(requests[i].numbers);
-        __real_free(requests[i].answer);
-    }
-    __real_free(requests);
     return 0;
 }

@@ -19,7 +19,9 @@ def steps(command, text, numbers):
 
 def retry(text, code, times, jitter=0, least=0, stop=None, budget=0):
     begun, said, numbers = time.monotonic_ns(), [], iter(range(times))
-    hook = {} if stop is None else {"before_sleep": lambda _, number, wait: said.append(f"{number}:{round(1000 * wait)}")}
+    def say(_, number, wait):
+        said.append(f"{number}:{round(1000 * wait)}")
+    hook = {} if stop is None else {"before_sleep": say}
 
     @zsched.retrying(text, on=OSError, input_of=lambda error: error.errno, jitter=jitter / 100,
                      retry_after=lambda _: least / 1000, budget=BUDGET if budget else None, **hook)
