@@ -3,7 +3,7 @@ use Rattle.std.proofs.Common.{◌≡◌, ℕ, List, [], ◌∷◌, ◌++◌, Opt
 use Rattle.zs_term.specs.Schedule.{Schedule, leaf, two, over, Leaf, plain, counted, exponential, Pairing, both, either, and_then, Modifier, while_input, while_output, collect_all, mapped, reset_when}
 use Rattle.zs_term.specs.Token.{Token, number, mark}
 use Rattle.zs_term.specs.Grammar.{with_infix, with_method, test_tokens, pick_tokens, func_tokens, SpellsLeaf, pairing_mark, modifier_tokens, Spells}
-use Rattle.zs_term.specs.Machine.{Make, Frame, left, right, Mode, start, after, picking, testing, State, at, step, run, apply_func, leaf_value, pairing_infix, modifier_value, value}
+use Rattle.zs_term.specs.Machine.{Make, Frame, left, right, Stage, start, after, picking, testing, State, at, step, run, apply_func, leaf_value, pairing_infix, modifier_value, value}
 use Rattle.zs_term.specs.declared.token.Mark.{Mark}
 use Rattle.zs_term.specs.declared.token.Mark.TheVariants.{MethodWord, Comparison, Open, Close, Dot}
 use Rattle.zs_term.specs.declared.term.Test.{Test}
@@ -70,7 +70,7 @@ module _ {A N : Type 0} (make : Make A N) where
   lead_pick PickWhole fs a e t rest = refl
 
   -- the arguments and the closing parenthesis, before any rest
-  lead_method : (w : Method) (k : Mode A N) (a b : A) (arguments : List Token) (fs : List (Frame A)) (rest : List Token)
+  lead_method : (w : Method) (k : Stage A N) (a b : A) (arguments : List Token) (fs : List (Frame A)) (rest : List Token)
       → run make (Some (at fs (after a))) (mark Dot ∷ mark (MethodWord w) ∷ mark Open ∷ (arguments ++ mark Close ∷ rest)) ≡ run make (Some (at fs k)) (arguments ++ mark Close ∷ rest)
       → run make (Some (at fs k)) (arguments ++ mark Close ∷ rest) ≡ run make (Some (at fs (after b))) rest
       → run make (Some (at fs (after a))) (with_method w arguments ++ rest) ≡ run make (Some (at fs (after b))) rest

@@ -6,7 +6,7 @@ use Rattle.zs_term.specs.OutputKind.{OutputKind}
 use Rattle.zs_term.specs.Kinds.{kind_of}
 use Rattle.zs_term.specs.Token.{Placed, lexed}
 use Rattle.zs_term.specs.Grammar.{Spells}
-use Rattle.zs_term.specs.Machine.{Frame, Mode, start, opening, counting, exp_opening, exp_counting, based, factored, closing, after, dotted, method, picking, testing, comparing, mapping, scaling, State, at, step, run, value, plant}
+use Rattle.zs_term.specs.Machine.{Frame, Stage, start, opening, counting, exp_opening, exp_counting, based, factored, closing, after, dotted, method, picking, testing, comparing, mapping, scaling, State, at, step, run, value, plant}
 use Rattle.zs_term.specs.Causes.{tokens_of, TextSpells, IsNoTermAt, refused, no_token, unfinished, first_huge, IsRead, SpellsSchedule, IsCause}
 use Rattle.zs_term.specs.Verdict.{finished_at, go_on, term_from, spelled_term, with_kind, with_numbers_at, judged, verdict_of, VerdictIsTheOne}
 use Rattle.zs_term.specs.declared.fault.TermFault.{TermFault}
@@ -41,28 +41,28 @@ module _ (text : List ℕ) where
       let spelled = sound plant (tokens_of (lexed text).tokens) t goes in
       record { to_the_end = e; spelled = subst (Spells (tokens_of (lexed text).tokens)) (sym (planted spelled.0) ∙ spelled.2) spelled.1 }
 
-  at_the_end : (fs : List (Frame Schedule)) (mode : Mode Schedule ℕ) → (lexed text).stop ≡ None → Leads (lexed text).tokens (at fs mode) → IsSpelledTerm text (finished_at (length text) fs mode)
+  at_the_end : (fs : List (Frame Schedule)) (stage : Stage Schedule ℕ) → (lexed text).stop ≡ None → Leads (lexed text).tokens (at fs stage) → IsSpelledTerm text (finished_at (length text) fs stage)
   at_the_end [] (after t) e goes = whole t e goes
-  at_the_end [] start e goes = not_whole _ e goes (λ t h. let m : ◌≡◌ {A = Mode Schedule ℕ} start (after t) = ap (λ s. s.mode) h in cc)
-  at_the_end [] (opening u) e goes = not_whole _ e goes (λ t h. let m : ◌≡◌ {A = Mode Schedule ℕ} (opening u) (after t) = ap (λ s. s.mode) h in cc)
-  at_the_end [] (counting u) e goes = not_whole _ e goes (λ t h. let m : ◌≡◌ {A = Mode Schedule ℕ} (counting u) (after t) = ap (λ s. s.mode) h in cc)
-  at_the_end [] exp_opening e goes = not_whole _ e goes (λ t h. let m : ◌≡◌ {A = Mode Schedule ℕ} exp_opening (after t) = ap (λ s. s.mode) h in cc)
-  at_the_end [] exp_counting e goes = not_whole _ e goes (λ t h. let m : ◌≡◌ {A = Mode Schedule ℕ} exp_counting (after t) = ap (λ s. s.mode) h in cc)
-  at_the_end [] (based n) e goes = not_whole _ e goes (λ t h. let m : ◌≡◌ {A = Mode Schedule ℕ} (based n) (after t) = ap (λ s. s.mode) h in cc)
-  at_the_end [] (factored n) e goes = not_whole _ e goes (λ t h. let m : ◌≡◌ {A = Mode Schedule ℕ} (factored n) (after t) = ap (λ s. s.mode) h in cc)
-  at_the_end [] (closing a) e goes = not_whole _ e goes (λ t h. let m : ◌≡◌ {A = Mode Schedule ℕ} (closing a) (after t) = ap (λ s. s.mode) h in cc)
-  at_the_end [] (dotted a) e goes = not_whole _ e goes (λ t h. let m : ◌≡◌ {A = Mode Schedule ℕ} (dotted a) (after t) = ap (λ s. s.mode) h in cc)
-  at_the_end [] (method k a) e goes = not_whole _ e goes (λ t h. let m : ◌≡◌ {A = Mode Schedule ℕ} (method k a) (after t) = ap (λ s. s.mode) h in cc)
-  at_the_end [] (picking k a) e goes = not_whole _ e goes (λ t h. let m : ◌≡◌ {A = Mode Schedule ℕ} (picking k a) (after t) = ap (λ s. s.mode) h in cc)
-  at_the_end [] (testing a j) e goes = not_whole _ e goes (λ t h. let m : ◌≡◌ {A = Mode Schedule ℕ} (testing a j) (after t) = ap (λ s. s.mode) h in cc)
-  at_the_end [] (comparing a j c) e goes = not_whole _ e goes (λ t h. let m : ◌≡◌ {A = Mode Schedule ℕ} (comparing a j c) (after t) = ap (λ s. s.mode) h in cc)
-  at_the_end [] (mapping a) e goes = not_whole _ e goes (λ t h. let m : ◌≡◌ {A = Mode Schedule ℕ} (mapping a) (after t) = ap (λ s. s.mode) h in cc)
-  at_the_end [] (scaling a g) e goes = not_whole _ e goes (λ t h. let m : ◌≡◌ {A = Mode Schedule ℕ} (scaling a g) (after t) = ap (λ s. s.mode) h in cc)
-  at_the_end (f ∷ fs) mode e goes = not_whole _ e goes (λ t h. let m : ◌≡◌ {A = List (Frame Schedule)} (f ∷ fs) [] = ap (λ s. s.frames) h in cc)
+  at_the_end [] start e goes = not_whole _ e goes (λ t h. let m : ◌≡◌ {A = Stage Schedule ℕ} start (after t) = ap (λ s. s.stage) h in cc)
+  at_the_end [] (opening u) e goes = not_whole _ e goes (λ t h. let m : ◌≡◌ {A = Stage Schedule ℕ} (opening u) (after t) = ap (λ s. s.stage) h in cc)
+  at_the_end [] (counting u) e goes = not_whole _ e goes (λ t h. let m : ◌≡◌ {A = Stage Schedule ℕ} (counting u) (after t) = ap (λ s. s.stage) h in cc)
+  at_the_end [] exp_opening e goes = not_whole _ e goes (λ t h. let m : ◌≡◌ {A = Stage Schedule ℕ} exp_opening (after t) = ap (λ s. s.stage) h in cc)
+  at_the_end [] exp_counting e goes = not_whole _ e goes (λ t h. let m : ◌≡◌ {A = Stage Schedule ℕ} exp_counting (after t) = ap (λ s. s.stage) h in cc)
+  at_the_end [] (based n) e goes = not_whole _ e goes (λ t h. let m : ◌≡◌ {A = Stage Schedule ℕ} (based n) (after t) = ap (λ s. s.stage) h in cc)
+  at_the_end [] (factored n) e goes = not_whole _ e goes (λ t h. let m : ◌≡◌ {A = Stage Schedule ℕ} (factored n) (after t) = ap (λ s. s.stage) h in cc)
+  at_the_end [] (closing a) e goes = not_whole _ e goes (λ t h. let m : ◌≡◌ {A = Stage Schedule ℕ} (closing a) (after t) = ap (λ s. s.stage) h in cc)
+  at_the_end [] (dotted a) e goes = not_whole _ e goes (λ t h. let m : ◌≡◌ {A = Stage Schedule ℕ} (dotted a) (after t) = ap (λ s. s.stage) h in cc)
+  at_the_end [] (method k a) e goes = not_whole _ e goes (λ t h. let m : ◌≡◌ {A = Stage Schedule ℕ} (method k a) (after t) = ap (λ s. s.stage) h in cc)
+  at_the_end [] (picking k a) e goes = not_whole _ e goes (λ t h. let m : ◌≡◌ {A = Stage Schedule ℕ} (picking k a) (after t) = ap (λ s. s.stage) h in cc)
+  at_the_end [] (testing a j) e goes = not_whole _ e goes (λ t h. let m : ◌≡◌ {A = Stage Schedule ℕ} (testing a j) (after t) = ap (λ s. s.stage) h in cc)
+  at_the_end [] (comparing a j c) e goes = not_whole _ e goes (λ t h. let m : ◌≡◌ {A = Stage Schedule ℕ} (comparing a j c) (after t) = ap (λ s. s.stage) h in cc)
+  at_the_end [] (mapping a) e goes = not_whole _ e goes (λ t h. let m : ◌≡◌ {A = Stage Schedule ℕ} (mapping a) (after t) = ap (λ s. s.stage) h in cc)
+  at_the_end [] (scaling a g) e goes = not_whole _ e goes (λ t h. let m : ◌≡◌ {A = Stage Schedule ℕ} (scaling a g) (after t) = ap (λ s. s.stage) h in cc)
+  at_the_end (f ∷ fs) stage e goes = not_whole _ e goes (λ t h. let m : ◌≡◌ {A = List (Frame Schedule)} (f ∷ fs) [] = ap (λ s. s.frames) h in cc)
 
   behind_all : (stop : Option ℕ) (s : State Schedule ℕ) → (lexed text).stop ≡ stop → Leads (lexed text).tokens s → IsSpelledTerm text (term_from (length text) stop s [])
   behind_all (Some place) s e goes = stopped_at place s e goes
-  behind_all None s e goes = at_the_end s.frames s.mode e goes
+  behind_all None s e goes = at_the_end s.frames s.stage e goes
 
   -- the tokens before a place lead on by one more token
   led : (done : List Placed) (s : State Schedule ℕ) (p : Placed) (o : Option (State Schedule ℕ)) → Leads done s → step plant (Some s) p.token ≡ o → run plant (Some (at [] start)) (tokens_of (done ++ p ∷ [])) ≡ o

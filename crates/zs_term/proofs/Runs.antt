@@ -3,7 +3,7 @@ use Rattle.std.proofs.Common.{◌≡◌, ℕ, List, [], ◌∷◌, ◌++◌, Som
 use Rattle.zs_term.specs.Schedule.{Schedule, leaf, two, over, Leaf, plain, counted, exponential, Pairing, both, either, and_then, Modifier, while_input, while_output, collect_all, mapped, reset_when}
 use Rattle.zs_term.specs.Token.{Token, number, mark}
 use Rattle.zs_term.specs.Grammar.{Spells, IsOpen}
-use Rattle.zs_term.specs.Machine.{Make, Frame, left, right, Mode, start, opening, counting, exp_opening, exp_counting, based, factored, closing, after, dotted, method, picking, testing, comparing, mapping, scaling, State, at, argument, run, apply_func, leaf_value, pairing_infix, modifier_value, value, infix_pairing, plant}
+use Rattle.zs_term.specs.Machine.{Make, Frame, left, right, Stage, start, opening, counting, exp_opening, exp_counting, based, factored, closing, after, dotted, method, picking, testing, comparing, mapping, scaling, State, at, argument, run, apply_func, leaf_value, pairing_infix, modifier_value, value, infix_pairing, plant}
 use Rattle.zs_term.specs.declared.token.Mark.TheVariants.{PlainWord, CollectAllWord, Operator, Comparison, ScaleWord, Open, Close}
 use Rattle.zs_term.specs.declared.term.Cmp.{Cmp}
 use Rattle.zs_term.specs.declared.term.Cmp.TheVariants.{Lt}
@@ -60,7 +60,7 @@ module _ {A N : Type 0} (make : Make A N) where
   ends_argument fs Map a = ends_mapping fs a
   ends_argument fs ResetWhen a = ends_picking fs Resetting a
 
-  ends_at : (fs : List (Frame A)) (k : Mode A N) → Ends (at fs k)
+  ends_at : (fs : List (Frame A)) (k : Stage A N) → Ends (at fs k)
   ends_at fs start = first_then _ _ (mark (PlainWord Forever) ∷ []) refl (ends_after fs (make.plain Forever))
   ends_at fs (opening u) = first_then _ _ (mark Open ∷ number 0 ∷ mark Close ∷ []) refl (ends_after fs (make.counted u (make.num 0)))
   ends_at fs (counting u) = first_then _ _ (number 0 ∷ mark Close ∷ []) refl (ends_after fs (make.counted u (make.num 0)))
@@ -82,9 +82,9 @@ module _ {A N : Type 0} (make : Make A N) where
   pub goes_on : (ts : List Token) (s : State A N) → run make (Some (at [] start)) ts ≡ Some s → IsOpen ts
   unfolding first_then
   goes_on ts s h =
-      let e = first_then (at [] start) s ts h (ends_at s.frames s.mode) in
+      let e = first_then (at [] start) s ts h (ends_at s.frames s.stage) in
       let t = sound make e.rest e.term e.goes in
-      ((ends_at s.frames s.mode).rest, t.0, t.1)
+      ((ends_at s.frames s.stage).rest, t.0, t.1)
 
   -- the state after a whole spelling
   pub spells_to : (ts : List Token) (t : Schedule) → Spells ts t → run make (Some (at [] start)) ts ≡ Some (at [] (after (value make t)))
@@ -135,6 +135,6 @@ pub spells_one : (ts : List Token) (a b : Schedule) → Spells ts a → Spells t
 spells_one ts a b h k =
     let e : Some (at [] (after (value plant a))) ≡ Some (at [] (after (value plant b))) = sym (spells_to plant ts a h) ∙ spells_to plant ts b k in
     let states : at {A = Schedule} {N = ℕ} [] (after (value plant a)) ≡ at [] (after (value plant b)) = cc in
-    let modes : ◌≡◌ {A = Mode Schedule ℕ} (after (value plant a)) (after (value plant b)) = ap (λ s. s.mode) states in
+    let modes : ◌≡◌ {A = Stage Schedule ℕ} (after (value plant a)) (after (value plant b)) = ap (λ s. s.stage) states in
     let same : value plant a ≡ value plant b = cc in
     sym (planted a) ∙ same ∙ planted b

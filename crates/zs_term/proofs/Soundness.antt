@@ -4,7 +4,7 @@ use Rattle.std.specs.Prelude.{option_map}
 use Rattle.zs_term.specs.Schedule.{Schedule, leaf, two, over, plain, counted, exponential, both, either, and_then, while_input, while_output, collect_all, mapped, reset_when}
 use Rattle.zs_term.specs.Token.{Token, number, mark}
 use Rattle.zs_term.specs.Grammar.{with_number, with_numbers, with_infix, with_method, test_tokens, pick_tokens, func_tokens, Spells}
-use Rattle.zs_term.specs.Machine.{Make, Frame, left, right, Mode, start, opening, counting, exp_opening, exp_counting, based, factored, closing, after, dotted, method, picking, testing, comparing, mapping, scaling, State, at, argument, begin_leaf, open_mark, close_mark, base_mark, dot_mark, pick_mark, test_mark, map_mark, inner_mark, inner_number, operator_mark, join_mark, start_mark, after_mark, step_mark, step, run, piece_pick, piece_func, apply_func, value}
+use Rattle.zs_term.specs.Machine.{Make, Frame, left, right, Stage, start, opening, counting, exp_opening, exp_counting, based, factored, closing, after, dotted, method, picking, testing, comparing, mapping, scaling, State, at, argument, begin_leaf, open_mark, close_mark, base_mark, dot_mark, pick_mark, test_mark, map_mark, inner_mark, inner_number, operator_mark, join_mark, start_mark, after_mark, step_mark, step, run, piece_pick, piece_func, apply_func, value}
 use Rattle.zs_term.specs.declared.token.Mark.{Mark}
 use Rattle.zs_term.specs.declared.token.Mark.TheVariants.{PlainWord, CountedWord, ExponentialWord, Operator, MethodWord, CollectAllWord, Comparison, PieceWord, MergeWord, ScaleWord, Open, Close, Comma, Dot}
 use Rattle.zs_term.specs.declared.term.Cmp.{Cmp}
@@ -54,7 +54,7 @@ module _ {A N : Type 0} (make : Make A N) where
   Before (right i a ∷ fs) ts = (us : List Token) × (x : List Token) × Before fs us × Stands x a × (ts ≡ us ++ mark Open ∷ (x ++ mark (Operator i) ∷ []))
 
   -- the tokens read since then
-  abbrev Since : Mode A N → List Token → Type 0
+  abbrev Since : Stage A N → List Token → Type 0
   Since start ts = ts ≡ []
   Since (opening c) ts = ts ≡ mark (CountedWord c) ∷ []
   Since (counting c) ts = ts ≡ mark (CountedWord c) ∷ mark Open ∷ []
@@ -121,17 +121,17 @@ module _ {A N : Type 0} (make : Make A N) where
   stands_as : (ts us : List Token) (a : A) → ts ≡ us → Stands us a → Stands ts a
   stands_as ts us a e h = subst (λ w. Stands w a) (sym e) h
 
-  to_mode : (k k' : Mode A N) (ts : List Token) → k ≡ k' → Since k ts → Since k' ts
-  to_mode k k' ts e h = subst (λ v. Since v ts) e h
+  to_stage : (k k' : Stage A N) (ts : List Token) → k ≡ k' → Since k ts → Since k' ts
+  to_stage k k' ts e h = subst (λ v. Since v ts) e h
 
   end_of : List Token → Token → List Token
   end_of ts t = ts ++ t ∷ []
 
-  -- a token that the mode allows leads to the next mode
-  since_begin : (m : Mark) (k : Mode A N) (ts : List Token) → Since start ts → begin_leaf make m ≡ Some k → Since k (ts ++ mark m ∷ [])
-  since_begin (PlainWord p) k ts s h = let e : after (make.plain p) ≡ k = cc in to_mode _ k _ e (stands_as _ (mark (PlainWord p) ∷ []) _ (ap (λ w. w ++ mark (PlainWord p) ∷ []) s) (stands_plain p))
-  since_begin (CountedWord c) k ts s h = let e : opening c ≡ k = cc in to_mode _ k _ e (ap (λ w. w ++ mark (CountedWord c) ∷ []) s)
-  since_begin ExponentialWord k ts s h = let e : exp_opening ≡ k = cc in to_mode _ k _ e (ap (λ w. w ++ mark ExponentialWord ∷ []) s)
+  -- a token that the stage allows leads to the next stage
+  since_begin : (m : Mark) (k : Stage A N) (ts : List Token) → Since start ts → begin_leaf make m ≡ Some k → Since k (ts ++ mark m ∷ [])
+  since_begin (PlainWord p) k ts s h = let e : after (make.plain p) ≡ k = cc in to_stage _ k _ e (stands_as _ (mark (PlainWord p) ∷ []) _ (ap (λ w. w ++ mark (PlainWord p) ∷ []) s) (stands_plain p))
+  since_begin (CountedWord c) k ts s h = let e : opening c ≡ k = cc in to_stage _ k _ e (ap (λ w. w ++ mark (CountedWord c) ∷ []) s)
+  since_begin ExponentialWord k ts s h = let e : exp_opening ≡ k = cc in to_stage _ k _ e (ap (λ w. w ++ mark ExponentialWord ∷ []) s)
   since_begin _ k ts s h = absurd cc
 
   since_argument : (w : Method) (a : A) (ts : List Token) → Follows a (mark Dot ∷ mark (MethodWord w) ∷ mark Open ∷ []) ts → Since (argument w a) ts
@@ -140,30 +140,30 @@ module _ {A N : Type 0} (make : Make A N) where
   since_argument Map a ts h = h
   since_argument ResetWhen a ts h = h
 
-  since_open : (next : Mode A N) (m : Mark) (k : Mode A N) (ts : List Token) → Since next (ts ++ mark Open ∷ []) → open_mark next m ≡ Some k → Since k (ts ++ mark m ∷ [])
-  since_open next Open k ts s h = let e : next ≡ k = cc in to_mode next k _ e s
+  since_open : (next : Stage A N) (m : Mark) (k : Stage A N) (ts : List Token) → Since next (ts ++ mark Open ∷ []) → open_mark next m ≡ Some k → Since k (ts ++ mark m ∷ [])
+  since_open next Open k ts s h = let e : next ≡ k = cc in to_stage next k _ e s
   since_open next _ k ts s h = absurd cc
 
-  since_close : (next : Mode A N) (m : Mark) (k : Mode A N) (ts : List Token) → Since next (ts ++ mark Close ∷ []) → close_mark next m ≡ Some k → Since k (ts ++ mark m ∷ [])
-  since_close next Close k ts s h = let e : next ≡ k = cc in to_mode next k _ e s
+  since_close : (next : Stage A N) (m : Mark) (k : Stage A N) (ts : List Token) → Since next (ts ++ mark Close ∷ []) → close_mark next m ≡ Some k → Since k (ts ++ mark m ∷ [])
+  since_close next Close k ts s h = let e : next ≡ k = cc in to_stage next k _ e s
   since_close next _ k ts s h = absurd cc
 
-  since_base : (v : N) (m : Mark) (k : Mode A N) (ts : List Token) → Since (based v) ts → base_mark make v m ≡ Some k → Since k (ts ++ mark m ∷ [])
+  since_base : (v : N) (m : Mark) (k : Stage A N) (ts : List Token) → Since (based v) ts → base_mark make v m ≡ Some k → Since k (ts ++ mark m ∷ [])
   since_base v Close k ts s h =
       let e : after (make.growing v (make.num 2)) ≡ k = cc in
-      to_mode _ k _ e (subst (λ w. Stands (ts ++ mark Close ∷ []) (make.growing w (make.num 2))) s.is
+      to_stage _ k _ e (subst (λ w. Stands (ts ++ mark Close ∷ []) (make.growing w (make.num 2))) s.is
       (stands_as _ (with_number ExponentialWord s.count) _ (ap (λ w. w ++ mark Close ∷ []) s.whole) (stands_doubling s.count)))
   since_base v Comma k ts s h =
       let e : factored v ≡ k = cc in
-      to_mode _ k _ e (record { count = s.count; is = s.is; whole = ap (λ w. w ++ mark Comma ∷ []) s.whole })
+      to_stage _ k _ e (record { count = s.count; is = s.is; whole = ap (λ w. w ++ mark Comma ∷ []) s.whole })
   since_base v _ k ts s h = absurd cc
 
-  since_dot : (a : A) (m : Mark) (k : Mode A N) (ts : List Token) → Since (dotted a) ts → dot_mark make a m ≡ Some k → Since k (ts ++ mark m ∷ [])
+  since_dot : (a : A) (m : Mark) (k : Stage A N) (ts : List Token) → Since (dotted a) ts → dot_mark make a m ≡ Some k → Since k (ts ++ mark m ∷ [])
   unfolding longer
   since_dot a CollectAllWord k ts s h =
       let e : after (make.collect a) ≡ k = cc in
-      to_mode _ k _ e (stands_as _ _ _ (longer a _ ts (mark CollectAllWord) s).whole (stands_collect s.front a s.stands))
-  since_dot a (MethodWord w) k ts s h = let e : method w a ≡ k = cc in to_mode _ k _ e (longer a (mark Dot ∷ []) ts (mark (MethodWord w)) s)
+      to_stage _ k _ e (stands_as _ _ _ (longer a _ ts (mark CollectAllWord) s).whole (stands_collect s.front a s.stands))
+  since_dot a (MethodWord w) k ts s h = let e : method w a ≡ k = cc in to_stage _ k _ e (longer a (mark Dot ∷ []) ts (mark (MethodWord w)) s)
   since_dot a _ k ts s h = absurd cc
 
   as_pick : (p : Piece) → mark (PieceWord p) ∷ [] ≡ pick_tokens (piece_pick p)
@@ -171,34 +171,34 @@ module _ {A N : Type 0} (make : Make A N) where
   as_pick PieceSecond = refl
   as_pick PieceSize = refl
 
-  since_pick : (e : Action) (a : A) (m : Mark) (k : Mode A N) (ts : List Token) → Since (picking e a) ts → pick_mark e a m ≡ Some k → Since k (ts ++ mark m ∷ [])
+  since_pick : (e : Action) (a : A) (m : Mark) (k : Stage A N) (ts : List Token) → Since (picking e a) ts → pick_mark e a m ≡ Some k → Since k (ts ++ mark m ∷ [])
   since_pick e a (PieceWord p) k ts s h =
       let f : testing a (Picked e (piece_pick p)) ≡ k = cc in
       let front = mark Dot ∷ mark (MethodWord (action_method e)) ∷ mark Open ∷ [] in
-      to_mode _ k _ f (as_tail a _ _ _ (ap (λ w. front ++ w) (as_pick p)) (longer a front ts (mark (PieceWord p)) s))
+      to_stage _ k _ f (as_tail a _ _ _ (ap (λ w. front ++ w) (as_pick p)) (longer a front ts (mark (PieceWord p)) s))
   since_pick e a (Comparison c) k ts s h =
       let f : comparing a (Picked e PickWhole) c ≡ k = cc in
-      to_mode _ k _ f (longer a (mark Dot ∷ mark (MethodWord (action_method e)) ∷ mark Open ∷ []) ts (mark (Comparison c)) s)
+      to_stage _ k _ f (longer a (mark Dot ∷ mark (MethodWord (action_method e)) ∷ mark Open ∷ []) ts (mark (Comparison c)) s)
   since_pick e a _ k ts s h = absurd cc
 
-  since_test : (a : A) (j : Subject) (m : Mark) (k : Mode A N) (ts : List Token) → Since (testing a j) ts → test_mark a j m ≡ Some k → Since k (ts ++ mark m ∷ [])
-  since_test a j (Comparison c) k ts s h = let e : comparing a j c ≡ k = cc in to_mode _ k _ e (longer a (subject_tokens j) ts (mark (Comparison c)) s)
+  since_test : (a : A) (j : Subject) (m : Mark) (k : Stage A N) (ts : List Token) → Since (testing a j) ts → test_mark a j m ≡ Some k → Since k (ts ++ mark m ∷ [])
+  since_test a j (Comparison c) k ts s h = let e : comparing a j c ≡ k = cc in to_stage _ k _ e (longer a (subject_tokens j) ts (mark (Comparison c)) s)
   since_test a j _ k ts s h = absurd cc
 
-  since_map : (a : A) (m : Mark) (k : Mode A N) (ts : List Token) → Since (mapping a) ts → map_mark make a m ≡ Some k → Since k (ts ++ mark m ∷ [])
+  since_map : (a : A) (m : Mark) (k : Stage A N) (ts : List Token) → Since (mapping a) ts → map_mark make a m ≡ Some k → Since k (ts ++ mark m ∷ [])
   unfolding longer
   since_map a (PieceWord p) k ts s h =
       let e : closing (make.apply a (piece_func p)) ≡ k = cc in
-      to_mode _ k _ e (stands_as _ _ _ (longer a _ _ (mark Close) (longer a _ ts (mark (PieceWord p)) s)).whole (stands_piece p s.front a s.stands))
+      to_stage _ k _ e (stands_as _ _ _ (longer a _ _ (mark Close) (longer a _ ts (mark (PieceWord p)) s)).whole (stands_piece p s.front a s.stands))
   since_map a MergeWord k ts s h =
       let e : closing (make.apply a Merge) ≡ k = cc in
-      to_mode _ k _ e (stands_as _ _ _ (longer a _ _ (mark Close) (longer a _ ts (mark MergeWord) s)).whole (stands_map Merge s.front a s.stands))
+      to_stage _ k _ e (stands_as _ _ _ (longer a _ _ (mark Close) (longer a _ ts (mark MergeWord) s)).whole (stands_map Merge s.front a s.stands))
   since_map a (ScaleWord g) k ts s h =
       let e : scaling a g ≡ k = cc in
-      to_mode _ k _ e (longer a (mark Dot ∷ mark (MethodWord Map) ∷ mark Open ∷ []) ts (mark (ScaleWord g)) s)
+      to_stage _ k _ e (longer a (mark Dot ∷ mark (MethodWord Map) ∷ mark Open ∷ []) ts (mark (ScaleWord g)) s)
   since_map a _ k ts s h = absurd cc
 
-  since_mark : (j : Mode A N) (m : Mark) (k : Mode A N) (ts : List Token) → Since j ts → inner_mark make j m ≡ Some k → Since k (ts ++ mark m ∷ [])
+  since_mark : (j : Stage A N) (m : Mark) (k : Stage A N) (ts : List Token) → Since j ts → inner_mark make j m ≡ Some k → Since k (ts ++ mark m ∷ [])
   since_mark (opening c) m k ts s h = since_open (counting c) m k ts (ap (λ w. w ++ mark Open ∷ []) s) h
   since_mark exp_opening m k ts s h = since_open exp_counting m k ts (ap (λ w. w ++ mark Open ∷ []) s) h
   since_mark (based v) m k ts s h = since_base v m k ts s h
@@ -210,38 +210,38 @@ module _ {A N : Type 0} (make : Make A N) where
   since_mark (mapping a) m k ts s h = since_map a m k ts s h
   since_mark _ m k ts s h = absurd cc
 
-  since_number : (j : Mode A N) (n : ℕ) (k : Mode A N) (ts : List Token) → Since j ts → inner_number make j (make.num n) ≡ Some k → Since k (ts ++ number n ∷ [])
+  since_number : (j : Stage A N) (n : ℕ) (k : Stage A N) (ts : List Token) → Since j ts → inner_number make j (make.num n) ≡ Some k → Since k (ts ++ number n ∷ [])
   unfolding longer
   since_number (counting c) n k ts s h =
       let e : closing (make.counted c (make.num n)) ≡ k = cc in
-      to_mode _ k _ e (stands_as _ (with_number (CountedWord c) n) _ (ap (λ w. (w ++ number n ∷ []) ++ mark Close ∷ []) s) (stands_counted c n))
+      to_stage _ k _ e (stands_as _ (with_number (CountedWord c) n) _ (ap (λ w. (w ++ number n ∷ []) ++ mark Close ∷ []) s) (stands_counted c n))
   since_number exp_counting n k ts s h =
       let e : based (make.num n) ≡ k = cc in
-      to_mode _ k _ e (record { count = n; is = refl; whole = ap (λ w. w ++ number n ∷ []) s })
+      to_stage _ k _ e (record { count = n; is = refl; whole = ap (λ w. w ++ number n ∷ []) s })
   since_number (factored v) n k ts s h =
       let e : closing (make.growing v (make.num n)) ≡ k = cc in
-      to_mode _ k _ e (subst (λ w. Stands ((ts ++ number n ∷ []) ++ mark Close ∷ []) (make.growing w (make.num n))) s.is
+      to_stage _ k _ e (subst (λ w. Stands ((ts ++ number n ∷ []) ++ mark Close ∷ []) (make.growing w (make.num n))) s.is
       (stands_as _ (with_numbers ExponentialWord s.count n) _ (ap (λ w. (w ++ number n ∷ []) ++ mark Close ∷ []) s.whole) (stands_growing s.count n)))
   since_number (comparing a j c) n k ts s h =
       let e : closing (make.test a j c (make.num n)) ≡ k = cc in
       let whole = (longer a _ _ (mark Close) (longer a _ ts (number n) s)).whole in
       let shape : (ts ++ number n ∷ []) ++ mark Close ∷ [] ≡ s.front ++ (subject_tokens j ++ (mark (Comparison c) ∷ number n ∷ mark Close ∷ [])) =
       whole ∙ ap (λ w. s.front ++ w) (ap (λ w. w ++ mark Close ∷ []) (append_assoc (subject_tokens j) (mark (Comparison c) ∷ []) (number n ∷ [])) ∙ append_assoc (subject_tokens j) (mark (Comparison c) ∷ number n ∷ []) (mark Close ∷ [])) in
-      to_mode _ k _ e (stands_as _ _ _ shape (stands_test j s.front a c n s.stands))
+      to_stage _ k _ e (stands_as _ _ _ shape (stands_test j s.front a c n s.stands))
   since_number (scaling a g) n k ts s h =
       let e : closing (make.scale a g (make.num n)) ≡ k = cc in
-      to_mode _ k _ e (stands_as _ _ _ (longer a _ _ (mark Close) (longer a _ ts (number n) s)).whole (stands_scale g n s.front a s.stands))
+      to_stage _ k _ e (stands_as _ _ _ (longer a _ _ (mark Close) (longer a _ ts (number n) s)).whole (stands_scale g n s.front a s.stands))
   since_number _ n k ts s h = absurd cc
 
   record ReadsTo (x : State A N) (ts : List Token) : Type 0 where
     before : List Token
     since : List Token
     front : Before x.frames before
-    back : Since x.mode since
+    back : Since x.stage since
     whole : ts ≡ before ++ since
 
   -- one more token after the innermost frame
-  further : (fs : List (Frame A)) (j k : Mode A N) (ts : List Token) (t : Token) (r : ReadsTo (at fs j) ts) → Since k (r.since ++ t ∷ []) → ReadsTo (at fs k) (ts ++ t ∷ [])
+  further : (fs : List (Frame A)) (j k : Stage A N) (ts : List Token) (t : Token) (r : ReadsTo (at fs j) ts) → Since k (r.since ++ t ∷ []) → ReadsTo (at fs k) (ts ++ t ∷ [])
   further fs j k ts t r h = record {
     before = r.before;
     since = r.since ++ t ∷ [];
@@ -280,7 +280,7 @@ module _ {A N : Type 0} (make : Make A N) where
   step_join (left ∷ fs) a m x ts r h = step_operator fs a m x ts r h
   step_join (right i a ∷ fs) b m x ts r h = step_closed i fs a b m x ts r h
 
-  step_within : (fs : List (Frame A)) (j : Mode A N) (m : Mark) (x : State A N) (ts : List Token) → ReadsTo (at fs j) ts → option_map (λ k. at fs k) (inner_mark make j m) ≡ Some x → ReadsTo x (ts ++ mark m ∷ [])
+  step_within : (fs : List (Frame A)) (j : Stage A N) (m : Mark) (x : State A N) (ts : List Token) → ReadsTo (at fs j) ts → option_map (λ k. at fs k) (inner_mark make j m) ≡ Some x → ReadsTo x (ts ++ mark m ∷ [])
   step_within fs j m x ts r h =
       let took = mapped_from (λ k. at fs k) (inner_mark make j m) x h in
       subst (λ v. ReadsTo v (ts ++ mark m ∷ [])) took.2 (further fs j took.0 ts (mark m) r (since_mark j m took.0 r.since r.back took.1))
@@ -303,16 +303,16 @@ module _ {A N : Type 0} (make : Make A N) where
       subst (λ v. ReadsTo v (ts ++ mark Dot ∷ [])) e (further fs (after a) (dotted a) ts (mark Dot) r (record { front = r.since; stands = r.back; whole = refl }))
   step_after fs a m x ts r h = step_join fs a m x ts r h
 
-  step_marks : (fs : List (Frame A)) (j : Mode A N) (m : Mark) (x : State A N) (ts : List Token) → ReadsTo (at fs j) ts → step_mark make fs j m ≡ Some x → ReadsTo x (ts ++ mark m ∷ [])
+  step_marks : (fs : List (Frame A)) (j : Stage A N) (m : Mark) (x : State A N) (ts : List Token) → ReadsTo (at fs j) ts → step_mark make fs j m ≡ Some x → ReadsTo x (ts ++ mark m ∷ [])
   step_marks fs start m x ts r h = step_start fs m x ts r h
   step_marks fs (after a) m x ts r h = step_after fs a m x ts r h
   step_marks fs j m x ts r h = step_within fs j m x ts r h
 
   step_reads : (x y : State A N) (t : Token) (ts : List Token) → ReadsTo x ts → step make (Some x) t ≡ Some y → ReadsTo y (ts ++ t ∷ [])
   step_reads x y (number n) ts r h =
-      let took = mapped_from (λ k. at x.frames k) (inner_number make x.mode (make.num n)) y h in
-      subst (λ v. ReadsTo v (ts ++ number n ∷ [])) took.2 (further x.frames x.mode took.0 ts (number n) r (since_number x.mode n took.0 r.since r.back took.1))
-  step_reads x y (mark m) ts r h = step_marks x.frames x.mode m y ts r h
+      let took = mapped_from (λ k. at x.frames k) (inner_number make x.stage (make.num n)) y h in
+      subst (λ v. ReadsTo v (ts ++ number n ∷ [])) took.2 (further x.frames x.stage took.0 ts (number n) r (since_number x.stage n took.0 r.since r.back took.1))
+  step_reads x y (mark m) ts r h = step_marks x.frames x.stage m y ts r h
 
   -- the tokens that led to a state, if there is one
   abbrev ReadsAny : Option (State A N) → List Token → Type 0

@@ -1,9 +1,9 @@
 -- Infix forms that are opened, continued and closed.
 use Rattle.std.proofs.Common.{◌≡◌, ℕ, zero, suc, ◌<◌, ◌≤◌, ◌-◌, List, [], ◌∷◌, ◌++◌, ◌+◌, length, Option, Some, None, refl, ap, ◌∙◌, arith, add-one}
 use Rattle.std.specs.Prelude.{option_map}
-use Rattle.zs_term.specs.Machine.{Mode, at, Frame, left, right}
-use Rattle.zs_term.specs.Parts.{Kept, kept_of, mode_of, bare_onto, joined_onto}
-use Rattle.zs_term.specs.declared.parser.Mode.{Mode as ModeKept}
+use Rattle.zs_term.specs.Machine.{Stage, at, Frame, left, right}
+use Rattle.zs_term.specs.Parts.{Kept, kept_of, stage_of, bare_onto, joined_onto}
+use Rattle.zs_term.specs.declared.parser.Stage.{Stage as StageKept}
 use Rattle.zs_term.specs.declared.parser.Joined.{Joined}
 
 -- one more `(`
@@ -40,6 +40,6 @@ pub stack_empty : (n : ℕ) (ks : List Joined) → bare_onto n (joined_onto [] k
 stack_empty zero ks h = (refl, omega (arith, onto_length [] ks, ap length h))
 stack_empty (suc n) ks h = omega (arith, ap length h)
 
-pub map_map : (fs : List (Frame Kept)) (o : Option ModeKept) (q : Option (Mode Kept (Option ℕ))) → option_map mode_of o ≡ q → option_map (λ m. at fs (mode_of m)) o ≡ option_map (λ next. at fs next) q
+pub map_map : (fs : List (Frame Kept)) (o : Option StageKept) (q : Option (Stage Kept (Option ℕ))) → option_map stage_of o ≡ q → option_map (λ m. at fs (stage_of m)) o ≡ option_map (λ next. at fs next) q
 map_map fs None q e = ap (option_map (λ next. at fs next)) e
 map_map fs (Some k) q e = ap (option_map (λ next. at fs next)) e

@@ -20,5 +20,5 @@ pub mod Verdict
 pub mod Scan
 pub mod Parts
 pub mod Shape
-pub mod Head
+pub mod Outline
 pub mod Reading

@@ -70,89 +70,89 @@ pub data Frame (A : Type 0) : Type 0 where
   right : Infix → A → Frame A
 
 -- what was read since the innermost frame, which determines what may come next
-pub data Mode (A N : Type 0) : Type 0 where
-  start : Mode A N
-  opening : Counted → Mode A N
-  counting : Counted → Mode A N
-  exp_opening : Mode A N
-  exp_counting : Mode A N
-  based : N → Mode A N
-  factored : N → Mode A N
-  closing : A → Mode A N
-  after : A → Mode A N
-  dotted : A → Mode A N
-  method : Method → A → Mode A N
-  picking : Action → A → Mode A N
-  testing : A → Subject → Mode A N
-  comparing : A → Subject → Cmp → Mode A N
-  mapping : A → Mode A N
-  scaling : A → Scale → Mode A N
+pub data Stage (A N : Type 0) : Type 0 where
+  start : Stage A N
+  opening : Counted → Stage A N
+  counting : Counted → Stage A N
+  exp_opening : Stage A N
+  exp_counting : Stage A N
+  based : N → Stage A N
+  factored : N → Stage A N
+  closing : A → Stage A N
+  after : A → Stage A N
+  dotted : A → Stage A N
+  method : Method → A → Stage A N
+  picking : Action → A → Stage A N
+  testing : A → Subject → Stage A N
+  comparing : A → Subject → Cmp → Stage A N
+  mapping : A → Stage A N
+  scaling : A → Scale → Stage A N
 
 -- a state: the open infix forms, the innermost first, and what was read since
 pub record State (A N : Type 0) : Type 0 where
   pub frames : List (Frame A)
-  pub mode : Mode A N
+  pub stage : Stage A N
 
--- the state of these frames and this mode
-abbrev pub at : {A N : Type 0} → List (Frame A) → Mode A N → State A N
-at fs m = record { frames = fs; mode = m }
+-- the state of these frames and this stage
+abbrev pub at : {A N : Type 0} → List (Frame A) → Stage A N → State A N
+at fs m = record { frames = fs; stage = m }
 
--- the mode after `.word(`
-abbrev pub argument : {A N : Type 0} → Method → A → Mode A N
+-- the stage after `.word(`
+abbrev pub argument : {A N : Type 0} → Method → A → Stage A N
 argument WhileInput a = testing a Input
 argument WhileOutput a = picking Stopping a
 argument Map a = mapping a
 argument ResetWhen a = picking Resetting a
 
 -- the first token of a term, if it isn't `(`
-abbrev pub begin_leaf : {A N : Type 0} → Make A N → Mark → Option (Mode A N)
+abbrev pub begin_leaf : {A N : Type 0} → Make A N → Mark → Option (Stage A N)
 begin_leaf make (PlainWord p) = Some (after (make.plain p))
 begin_leaf make (CountedWord c) = Some (opening c)
 begin_leaf make ExponentialWord = Some exp_opening
 begin_leaf make _ = None
 
--- `(`, which leads to a mode
-abbrev pub open_mark : {A N : Type 0} → Mode A N → Mark → Option (Mode A N)
+-- `(`, which leads to a stage
+abbrev pub open_mark : {A N : Type 0} → Stage A N → Mark → Option (Stage A N)
 open_mark next Open = Some next
 open_mark next _ = None
 
--- `)`, which leads to a mode
-abbrev pub close_mark : {A N : Type 0} → Mode A N → Mark → Option (Mode A N)
+-- `)`, which leads to a stage
+abbrev pub close_mark : {A N : Type 0} → Stage A N → Mark → Option (Stage A N)
 close_mark next Close = Some next
 close_mark next _ = None
 
 -- the token after `exponential(N`
-abbrev pub base_mark : {A N : Type 0} → Make A N → N → Mark → Option (Mode A N)
+abbrev pub base_mark : {A N : Type 0} → Make A N → N → Mark → Option (Stage A N)
 base_mark make n Close = Some (after (make.growing n (make.num 2)))
 base_mark make n Comma = Some (factored n)
 base_mark make n _ = None
 
 -- the token after `S.`
-abbrev pub dot_mark : {A N : Type 0} → Make A N → A → Mark → Option (Mode A N)
+abbrev pub dot_mark : {A N : Type 0} → Make A N → A → Mark → Option (Stage A N)
 dot_mark make a CollectAllWord = Some (after (make.collect a))
 dot_mark make a (MethodWord k) = Some (method k a)
 dot_mark make a _ = None
 
 -- a pick, or a comparison of the whole output
-abbrev pub pick_mark : {A N : Type 0} → Action → A → Mark → Option (Mode A N)
+abbrev pub pick_mark : {A N : Type 0} → Action → A → Mark → Option (Stage A N)
 pick_mark e a (PieceWord p) = Some (testing a (Picked e (piece_pick p)))
 pick_mark e a (Comparison c) = Some (comparing a (Picked e PickWhole) c)
 pick_mark e a _ = None
 
 -- a comparison
-abbrev pub test_mark : {A N : Type 0} → A → Subject → Mark → Option (Mode A N)
+abbrev pub test_mark : {A N : Type 0} → A → Subject → Mark → Option (Stage A N)
 test_mark a s (Comparison c) = Some (comparing a s c)
 test_mark a s _ = None
 
 -- a function, or the word of one with a number
-abbrev pub map_mark : {A N : Type 0} → Make A N → A → Mark → Option (Mode A N)
+abbrev pub map_mark : {A N : Type 0} → Make A N → A → Mark → Option (Stage A N)
 map_mark make a (PieceWord p) = Some (closing (make.apply a (piece_func p)))
 map_mark make a MergeWord = Some (closing (make.apply a Merge))
 map_mark make a (ScaleWord g) = Some (scaling a g)
 map_mark make a _ = None
 
 -- a word or symbol within a form
-abbrev pub inner_mark : {A N : Type 0} → Make A N → Mode A N → Mark → Option (Mode A N)
+abbrev pub inner_mark : {A N : Type 0} → Make A N → Stage A N → Mark → Option (Stage A N)
 inner_mark make (opening c) m = open_mark (counting c) m
 inner_mark make exp_opening m = open_mark exp_counting m
 inner_mark make (based n) m = base_mark make n m
@@ -165,7 +165,7 @@ inner_mark make (mapping a) m = map_mark make a m
 inner_mark make _ m = None
 
 -- a number within a form
-abbrev pub inner_number : {A N : Type 0} → Make A N → Mode A N → N → Option (Mode A N)
+abbrev pub inner_number : {A N : Type 0} → Make A N → Stage A N → N → Option (Stage A N)
 inner_number make (counting c) n = Some (closing (make.counted c n))
 inner_number make exp_counting n = Some (based n)
 inner_number make (factored b) n = Some (closing (make.growing b n))
@@ -197,21 +197,21 @@ after_mark make fs a m = join_mark make fs a m
 
 -- the state after a word or symbol, if it may come
 abbrev pub step_mark : {A N : Type 0} → Make A N
-    → List (Frame A) → Mode A N → Mark → Option (State A N)
+    → List (Frame A) → Stage A N → Mark → Option (State A N)
 step_mark make fs start m = start_mark make fs m
 step_mark make fs (after a) m = after_mark make fs a m
 step_mark make fs k m = option_map (λ next. at fs next) (inner_mark make k m)
 
 -- the state after a number, if it may come
 abbrev pub step_number : {A N : Type 0} → Make A N
-    → List (Frame A) → Mode A N → N → Option (State A N)
+    → List (Frame A) → Stage A N → N → Option (State A N)
 step_number make fs k n = option_map (λ next. at fs next) (inner_number make k n)
 
 -- the state after one more token, if there is one
 abbrev pub step : {A N : Type 0} → Make A N → Option (State A N) → Token → Option (State A N)
 step make None t = None
-step make (Some s) (number n) = step_number make s.frames s.mode (make.num n)
-step make (Some s) (mark m) = step_mark make s.frames s.mode m
+step make (Some s) (number n) = step_number make s.frames s.stage (make.num n)
+step make (Some s) (mark m) = step_mark make s.frames s.stage m
 
 -- the state after some tokens, if there is one
 abbrev pub run : {A N : Type 0} → Make A N → Option (State A N) → List Token → Option (State A N)

@@ -5,7 +5,7 @@ use Rattle.zs_term.specs.Schedule.{Schedule, leaf, two, over, plain, counted, ex
 use Rattle.zs_term.specs.Schedule.{collect_all, mapped, schedule_of}
 use Rattle.zs_term.specs.Saturating.{saturated}
 use Rattle.zs_term.specs.Number.{fit}
-use Rattle.zs_term.specs.Machine.{Make, Frame, left, right, State, at, Mode, start, opening}
+use Rattle.zs_term.specs.Machine.{Make, Frame, left, right, State, at, Stage, start, opening}
 use Rattle.zs_term.specs.Machine.{counting, exp_opening, exp_counting, based, factored, closing}
 use Rattle.zs_term.specs.Machine.{after, dotted, method, picking, testing, comparing, mapping}
 use Rattle.zs_term.specs.Machine.{scaling, infix_pairing, test_modifier, scale_by}
@@ -19,11 +19,11 @@ use Rattle.zs_term.specs.declared.forms.Scale.{Scale}
 use Rattle.zs_term.specs.declared.part.Part.{Part}
 use Rattle.zs_term.specs.declared.parser.Parser.{Parser}
 use Rattle.zs_term.specs.declared.parser.Joined.{Joined}
-use Rattle.zs_term.specs.declared.parser.Mode.{Mode as ModeKept}
-use Rattle.zs_term.specs.declared.parser.Mode.TheVariants.{Start, Opening, Counting, ExpOpening}
-use Rattle.zs_term.specs.declared.parser.Mode.TheVariants.{ExpCounting, Based, Factored, Closing}
-use Rattle.zs_term.specs.declared.parser.Mode.TheVariants.{After, Dotted, Method, Picking, Testing}
-use Rattle.zs_term.specs.declared.parser.Mode.TheVariants.{Comparing, Mapping, Scaling}
+use Rattle.zs_term.specs.declared.parser.Stage.{Stage as StageKept}
+use Rattle.zs_term.specs.declared.parser.Stage.TheVariants.{Start, Opening, Counting, ExpOpening}
+use Rattle.zs_term.specs.declared.parser.Stage.TheVariants.{ExpCounting, Based, Factored, Closing}
+use Rattle.zs_term.specs.declared.parser.Stage.TheVariants.{After, Dotted, Method, Picking, Testing}
+use Rattle.zs_term.specs.declared.parser.Stage.TheVariants.{Comparing, Mapping, Scaling}
 
 -- the sizes of a term, saturated at 2^64 - 1, and the term if terms are built and its numbers fit
 pub record Kept : Type 0 where
@@ -116,32 +116,32 @@ joined_onto fs (k ∷ ks) = joined_onto (right k.form (kept_of k.left) ∷ bare_
 abbrev pub stack_of : Parser → List (Frame Kept)
 stack_of parser = bare_onto parser.bare (joined_onto [] parser.joined.items)
 
--- the mode, as the code stores it
-abbrev pub mode_of : ModeKept → Mode Kept (Option ℕ)
-mode_of Start = start
-mode_of (Opening c) = opening c
-mode_of (Counting c) = counting c
-mode_of ExpOpening = exp_opening
-mode_of ExpCounting = exp_counting
-mode_of (Based n) = based n
-mode_of (Factored n) = factored n
-mode_of (Closing p) = closing (kept_of p)
-mode_of (After p) = after (kept_of p)
-mode_of (Dotted p) = dotted (kept_of p)
-mode_of (Method w p) = method w (kept_of p)
-mode_of (Picking e p) = picking e (kept_of p)
-mode_of (Testing p s) = testing (kept_of p) s
-mode_of (Comparing p s c) = comparing (kept_of p) s c
-mode_of (Mapping p) = mapping (kept_of p)
-mode_of (Scaling p g) = scaling (kept_of p) g
+-- the stage, as the code stores it
+abbrev pub stage_of : StageKept → Stage Kept (Option ℕ)
+stage_of Start = start
+stage_of (Opening c) = opening c
+stage_of (Counting c) = counting c
+stage_of ExpOpening = exp_opening
+stage_of ExpCounting = exp_counting
+stage_of (Based n) = based n
+stage_of (Factored n) = factored n
+stage_of (Closing p) = closing (kept_of p)
+stage_of (After p) = after (kept_of p)
+stage_of (Dotted p) = dotted (kept_of p)
+stage_of (Method w p) = method w (kept_of p)
+stage_of (Picking e p) = picking e (kept_of p)
+stage_of (Testing p s) = testing (kept_of p) s
+stage_of (Comparing p s c) = comparing (kept_of p) s c
+stage_of (Mapping p) = mapping (kept_of p)
+stage_of (Scaling p g) = scaling (kept_of p) g
 
--- the state of a parser in this mode
-abbrev pub state_in : Parser → ModeKept → State Kept (Option ℕ)
-state_in parser mode = at (stack_of parser) (mode_of mode)
+-- the state of a parser in this stage
+abbrev pub state_in : Parser → StageKept → State Kept (Option ℕ)
+state_in parser stage = at (stack_of parser) (stage_of stage)
 
--- the parser is in this state, if there is one, in the mode after a token
-abbrev pub Reaches : Parser → Option ModeKept → Option (State Kept (Option ℕ)) → Type 0
-Reaches parser next state = option_map (λ mode. state_in parser mode) next ≡ state
+-- the parser is in this state, if there is one, in the stage after a token
+abbrev pub Reaches : Parser → Option StageKept → Option (State Kept (Option ℕ)) → Type 0
+Reaches parser next state = option_map (λ stage. state_in parser stage) next ≡ state
 
 -- the part is the whole term of the state; without a part the state has no whole term
 abbrev pub Finishes : State Kept (Option ℕ) → Option Part → Type 0

@@ -8,7 +8,7 @@ use Rattle.zs_term.specs.Schedule.{has_windows}
 use Rattle.zs_term.specs.OutputKind.{OutputKind}
 use Rattle.zs_term.specs.Kinds.{kind_of}
 use Rattle.zs_term.specs.Token.{Placed, lexed}
-use Rattle.zs_term.specs.Machine.{Frame, Mode, start, after, State, at, step, plant}
+use Rattle.zs_term.specs.Machine.{Frame, Stage, start, after, State, at, step, plant}
 use Rattle.zs_term.specs.Causes.{first_huge, SpellsSchedule, IsCause}
 use Rattle.zs_term.specs.declared.term.Term.{Term}
 use Rattle.zs_term.specs.declared.fault.TermFault.{TermFault}
@@ -16,9 +16,9 @@ use Rattle.zs_term.specs.declared.fault.TermFault.TheVariants.{NoTerm, TooBig, B
 use Rattle.zs_term.specs.declared.fault.TermFault.TheVariants.{NoKind, BadWindow, Memory}
 
 -- the whole term if no form is open, else the place after all tokens
-abbrev pub finished_at : ℕ → List (Frame Schedule) → Mode Schedule ℕ → Result Schedule ℕ
+abbrev pub finished_at : ℕ → List (Frame Schedule) → Stage Schedule ℕ → Result Schedule ℕ
 finished_at end [] (after t) = Ok t
-finished_at end fs mode = Err end
+finished_at end fs stage = Err end
 
 -- continues from a state, or stops at the place at which no spelling can go on
 abbrev pub go_on : ℕ → Option (State Schedule ℕ)
@@ -29,7 +29,7 @@ go_on place (Some s) rest = rest s
 -- the tokens from a state on: the whole term, or the first place at which no spelling can go on
 abbrev pub term_from : ℕ → Option ℕ → State Schedule ℕ → List Placed → Result Schedule ℕ
 term_from end (Some place) s [] = Err place
-term_from end None s [] = finished_at end s.frames s.mode
+term_from end None s [] = finished_at end s.frames s.stage
 term_from end stop s (p ∷ ps) =
     go_on p.place (step plant (Some s) p.token) (λ next. term_from end stop next ps)
 

@@ -81,7 +81,7 @@ pub enum Subject {
 
 /// A piece of an output, which a test reads or a function returns.
 #[derive(Clone, Copy, Drop)]
-pub enum Piece {
+pub(crate) enum Piece {
     /// `_1`
     First,
     /// `_2`
@@ -236,7 +236,7 @@ impl Subject {
     }
 
     /// Returns the weight of this test over a part of the given weight.
-    pub fn weight_over(self, weight: u64) -> u64
+    pub(crate) fn weight_over(self, weight: u64) -> u64
         ensures value { result ≡ test_weight self weight }
     {
         match self {

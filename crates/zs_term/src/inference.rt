@@ -5,7 +5,7 @@ ghost use Rattle.std.specs.Prelude.{◌≡◌, ◌≢◌, ◌≤◌, Some, None,
 ghost use Rattle.zs_term.specs.Schedule.{schedule_of, depth};
 ghost use Rattle.zs_term.specs.OutputKind.{output_kind_of, is_same_kind};
 ghost use Rattle.zs_term.specs.Kinds.{kind_of, takes_memory, answers, fits, is_num};
-ghost use Rattle.zs_term.specs.Head.{unchecked_result, unchecked_kind, head_kind, head_depth};
+ghost use Rattle.zs_term.specs.Outline.{unchecked_result, unchecked_kind, outline_kind, outline_depth};
 
 use crate::forms::{Infix, Shape, Subject};
 use crate::kind::Kind;
@@ -14,7 +14,7 @@ use std::alloc::{AllocError, Global};
 
 /// The outermost form of a kind, with the terms that have its parts as kinds.
 #[derive(Drop)]
-pub enum Head<'t> {
+pub(crate) enum Outline<'t> {
     /// A number.
     Num,
     /// A pair of an output of each term.
@@ -44,37 +44,37 @@ pub(crate) fn make_kind(alloc: Global, term: &Term) -> Result<Kind, AllocError>
     ensures value { IfOk result (λ k. output_kind_of k ≡ unchecked_kind (schedule_of term.now)) }
     ensures memory { IfErr result (λ _. takes_memory (schedule_of term.now) ≡ true) }
 {
-    Ok(match head_of(term) {
-        Head::Num => Kind::Num,
-        Head::Pair(a, b) => {
+    Ok(match outline_of(term) {
+        Outline::Num => Kind::Num,
+        Outline::Pair(a, b) => {
             let a = Box::new(alloc, make_kind(alloc, a)?)?;
             Kind::Pair(a, Box::new(alloc, make_kind(alloc, b)?)?)
         }
-        Head::Sum(a, b) => {
+        Outline::Sum(a, b) => {
             let a = Box::new(alloc, make_kind(alloc, a)?)?;
             Kind::Sum(a, Box::new(alloc, make_kind(alloc, b)?)?)
         }
-        Head::Items(a) => Kind::Items(Box::new(alloc, make_kind(alloc, a)?)?),
+        Outline::Items(a) => Kind::Items(Box::new(alloc, make_kind(alloc, a)?)?),
     })
 }
 
 // Returns the outermost form of the kind of a term that has one. Visits no node twice.
-fn head_of(term: &Term) -> Head<'_>
-    ensures value { head_kind result ≡ unchecked_kind (schedule_of term.now) }
-    ensures below { head_depth result ≤ depth (schedule_of term.now) }
-    ensures memory { result ≢ Head.Num → takes_memory (schedule_of term.now) ≡ true }
+fn outline_of(term: &Term) -> Outline<'_>
+    ensures value { outline_kind result ≡ unchecked_kind (schedule_of term.now) }
+    ensures below { outline_depth result ≤ depth (schedule_of term.now) }
+    ensures memory { result ≢ Outline.Num → takes_memory (schedule_of term.now) ≡ true }
 {
     match term.shape() {
-        Shape::Plain(_) | Shape::Counted(_, _) | Shape::Exponential(_, _) => Head::Num,
-        Shape::Joined(Infix::Both | Infix::Either, a, b) => Head::Pair(a, b),
-        Shape::Joined(Infix::AndThen, a, b) => Head::Sum(a, b),
-        Shape::Tested(s, _, _) => head_of(s),
-        Shape::Collected(s) => Head::Items(s),
-        Shape::Mapped(s, func) => match (func, head_of(s)) {
-            (Func::First, Head::Pair(a, _)) | (Func::Merge, Head::Sum(a, _)) => head_of(a),
-            (Func::Second, Head::Pair(_, b)) => head_of(b),
+        Shape::Plain(_) | Shape::Counted(_, _) | Shape::Exponential(_, _) => Outline::Num,
+        Shape::Joined(Infix::Both | Infix::Either, a, b) => Outline::Pair(a, b),
+        Shape::Joined(Infix::AndThen, a, b) => Outline::Sum(a, b),
+        Shape::Tested(s, _, _) => outline_of(s),
+        Shape::Collected(s) => Outline::Items(s),
+        Shape::Mapped(s, func) => match (func, outline_of(s)) {
+            (Func::First, Outline::Pair(a, _)) | (Func::Merge, Outline::Sum(a, _)) => outline_of(a),
+            (Func::Second, Outline::Pair(_, b)) => outline_of(b),
             (Func::First | Func::Second | Func::Size | Func::Merge, _)
-            | (Func::Const(_) | Func::Add(_) | Func::Mul(_), _) => Head::Num,
+            | (Func::Const(_) | Func::Add(_) | Func::Mul(_), _) => Outline::Num,
         },
     }
 }
@@ -83,17 +83,17 @@ fn head_of(term: &Term) -> Head<'_>
 fn is_num(term: &Term) -> bool
     ensures value { result ≡ is_num (unchecked_kind (schedule_of term.now)) }
 {
-    matches!(head_of(term), Head::Num)
+    matches!(outline_of(term), Outline::Num)
 }
 
 // Whether a pick fits the kind of a term.
 fn fits(pick: Pick, term: &Term) -> bool
     ensures value { result ≡ fits pick (unchecked_kind (schedule_of term.now)) }
 {
-    match (pick, head_of(term)) {
-        (Pick::Whole, Head::Num) | (Pick::Size, Head::Items(_)) => true,
-        (Pick::First, Head::Pair(a, _)) => is_num(a),
-        (Pick::Second, Head::Pair(_, b)) => is_num(b),
+    match (pick, outline_of(term)) {
+        (Pick::Whole, Outline::Num) | (Pick::Size, Outline::Items(_)) => true,
+        (Pick::First, Outline::Pair(a, _)) => is_num(a),
+        (Pick::Second, Outline::Pair(_, b)) => is_num(b),
         (Pick::Whole | Pick::First | Pick::Second | Pick::Size, _) => false,
     }
 }
@@ -103,10 +103,10 @@ fn applies(func: Func, term: &Term) -> bool
     ensures value { answers func (unchecked_kind (schedule_of term.now)) ≡ (if result
         then Some (unchecked_result func (unchecked_kind (schedule_of term.now))) else None) }
 {
-    match (func, head_of(term)) {
-        (Func::First | Func::Second, Head::Pair(_, _)) | (Func::Size, Head::Items(_)) => true,
-        (Func::Merge, Head::Sum(a, b)) => has_same_kind(a, b),
-        (Func::Add(_) | Func::Mul(_), Head::Num) | (Func::Const(_), _) => true,
+    match (func, outline_of(term)) {
+        (Func::First | Func::Second, Outline::Pair(_, _)) | (Func::Size, Outline::Items(_)) => true,
+        (Func::Merge, Outline::Sum(a, b)) => has_same_kind(a, b),
+        (Func::Add(_) | Func::Mul(_), Outline::Num) | (Func::Const(_), _) => true,
         (Func::First | Func::Second | Func::Size | Func::Merge, _)
         | (Func::Add(_) | Func::Mul(_), _) => false,
     }
@@ -117,12 +117,12 @@ fn has_same_kind(a: &Term, b: &Term) -> bool
     ensures value { result
         ≡ is_same_kind (unchecked_kind (schedule_of a.now)) (unchecked_kind (schedule_of b.now)) }
 {
-    match (head_of(a), head_of(b)) {
-        (Head::Num, Head::Num) => true,
-        (Head::Pair(x, y), Head::Pair(z, w)) | (Head::Sum(x, y), Head::Sum(z, w)) => {
+    match (outline_of(a), outline_of(b)) {
+        (Outline::Num, Outline::Num) => true,
+        (Outline::Pair(x, y), Outline::Pair(z, w)) | (Outline::Sum(x, y), Outline::Sum(z, w)) => {
             has_same_kind(x, z) && has_same_kind(y, w)
         }
-        (Head::Items(x), Head::Items(z)) => has_same_kind(x, z),
-        (Head::Num | Head::Pair(_, _) | Head::Sum(_, _) | Head::Items(_), _) => false,
+        (Outline::Items(x), Outline::Items(z)) => has_same_kind(x, z),
+        (Outline::Num | Outline::Pair(_, _) | Outline::Sum(_, _) | Outline::Items(_), _) => false,
     }
 }

@@ -200,8 +200,8 @@ fn more(sum: Option<u64>, digit: u8) -> Option<u64>
 
 /// A token at the front of some bytes, with its length in bytes.
 #[derive(Clone, Copy, Drop)]
-pub struct Found {
-    pub lexeme: Lexeme,
+pub(crate) struct Found {
+    pub(crate) lexeme: Lexeme,
     pub len: usize,
 }
 
@@ -276,7 +276,7 @@ fn token_at(bytes: &[u8]) -> Option<Found>
 /// What comes next in a text after any spaces: the end, a byte at which no token begins, or a token
 /// with its place and the place after it.
 #[derive(Clone, Copy, Drop)]
-pub enum Scan {
+pub(crate) enum Scan {
     End,
     Stuck(usize),
     Next(usize, Lexeme, usize),
@@ -311,7 +311,7 @@ fn behind(text: &[u8], at: usize) -> &[u8]
 
 /// Returns what comes next in a text from a place on.
 #[tactic(auto, using(crate::proofs::Lexing::lex_end))]
-pub fn scan_at(text: &[u8], from: usize) -> Scan
+pub(crate) fn scan_at(text: &[u8], from: usize) -> Scan
     requires within { from ≤ length text.now }
     ensures value { Scans text.now from result }
 {

@@ -22,7 +22,7 @@ pub struct Part {
 
 impl Part {
     /// Makes a leaf without numbers.
-    pub fn plain_leaf(alloc: Global, build: bool, form: Plain) -> Result<Part, AllocError>
+    pub(crate) fn plain_leaf(alloc: Global, build: bool, form: Plain) -> Result<Part, AllocError>
         ensures value { IfOk result (λ part. kept_of part ≡ (keep build).plain form) }
     {
         let term = if build { Some(form.of()) } else { None };
@@ -30,7 +30,7 @@ impl Part {
     }
 
     /// Makes a leaf with a number.
-    pub fn counted_leaf(
+    pub(crate) fn counted_leaf(
         alloc: Global,
         build: bool,
         form: Counted,
@@ -127,7 +127,7 @@ impl Part {
     }
 
     /// Puts a function with a number over a part.
-    pub fn scale(
+    pub(crate) fn scale(
         alloc: Global,
         part: Part,
         scale: Scale,

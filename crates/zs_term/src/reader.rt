@@ -13,7 +13,7 @@ use crate::checked::{Checked, check_small};
 use crate::fault::TermFault;
 use crate::lexer::{Scan, scan_at};
 use crate::limits::{MAX_DEPTH, MAX_WEIGHT};
-use crate::parser::{Mode, Parser};
+use crate::parser::{Parser, Stage};
 use crate::part::Part;
 use crate::term::Term;
 use crate::token::Lexeme;
@@ -43,23 +43,23 @@ fn whole(alloc: Global, build: bool, text: &[u8]) -> Result<(Part, Option<u64>),
         bare: 0,
         joined: Vec::new(alloc),
     };
-    let mut mode = Mode::Start;
+    let mut stage = Stage::Start;
     let mut huge: Option<u64> = None;
     let mut from: usize = 0;
     loop {
         match scan_at(text, from) {
-            Scan::End => match parser.finish(mode) {
+            Scan::End => match parser.finish(stage) {
                 Some(part) => return Ok((part, huge)),
                 None => return Err(TermFault::NoTerm {
                     at: text.len() as u64,
                 }),
             },
             Scan::Stuck(place) => return Err(TermFault::NoTerm { at: place as u64 }),
-            Scan::Next(place, lexeme, end) => match parser.after_lexeme(mode, lexeme) {
+            Scan::Next(place, lexeme, end) => match parser.after_lexeme(stage, lexeme) {
                 Err(_) => return Err(TermFault::Memory),
                 Ok(None) => return Err(TermFault::NoTerm { at: place as u64 }),
                 Ok(Some(next)) => {
-                    mode = next;
+                    stage = next;
                     huge = huge_behind(huge, place, lexeme);
                     from = end;
                 }

@@ -5,7 +5,7 @@ use crate::term::Cmp;
 
 /// A word or a symbol, by its role in a term.
 #[derive(Clone, Copy, Drop)]
-pub enum Mark {
+pub(crate) enum Mark {
     /// The word of a leaf without numbers.
     PlainWord(Plain),
     /// The word of a leaf with one number.
@@ -40,7 +40,7 @@ pub enum Mark {
 
 /// A token as the code stores it: a number above 2^64 - 1 is `None`.
 #[derive(Clone, Copy, Drop)]
-pub enum Lexeme {
+pub(crate) enum Lexeme {
     /// A number.
     Number(Option<u64>),
     /// A word or a symbol.

@@ -2,8 +2,8 @@
 use Rattle.std.specs.Prelude.{ℕ, ◌+◌, max}
 use Rattle.zs_term.specs.declared.term.Func.{Func}
 use Rattle.zs_term.specs.declared.term.Func.TheVariants.{First, Second, Merge}
-use Rattle.zs_term.specs.declared.inference.Head.{Head}
-use Rattle.zs_term.specs.declared.inference.Head.TheVariants.{Num, Pair, Sum, Items}
+use Rattle.zs_term.specs.declared.inference.Outline.{Outline}
+use Rattle.zs_term.specs.declared.inference.Outline.TheVariants.{Num, Pair, Sum, Items}
 use Rattle.zs_term.specs.OutputKind.{OutputKind, num, pair_of, sum_of, list_of}
 use Rattle.zs_term.specs.Schedule.{Schedule, leaf, two, over, while_input, while_output}
 use Rattle.zs_term.specs.Schedule.{collect_all, mapped, reset_when, schedule_of, depth}
@@ -27,17 +27,17 @@ unchecked_kind (over s (mapped f)) = unchecked_result f (unchecked_kind s)
 unchecked_kind (over s (reset_when k t)) = unchecked_kind s
 
 -- the kind with this outermost form
-abbrev pub head_kind : Head → OutputKind
-head_kind Num = num
-head_kind (Pair a b) =
+abbrev pub outline_kind : Outline → OutputKind
+outline_kind Num = num
+outline_kind (Pair a b) =
     pair_of (unchecked_kind (schedule_of a.now)) (unchecked_kind (schedule_of b.now))
-head_kind (Sum a b) =
+outline_kind (Sum a b) =
     sum_of (unchecked_kind (schedule_of a.now)) (unchecked_kind (schedule_of b.now))
-head_kind (Items a) = list_of (unchecked_kind (schedule_of a.now))
+outline_kind (Items a) = list_of (unchecked_kind (schedule_of a.now))
 
 -- 1 more than the depth of the deepest term in a form, 0 if it has none
-abbrev pub head_depth : Head → ℕ
-head_depth Num = 0
-head_depth (Pair a b) = 1 + max (depth (schedule_of a.now)) (depth (schedule_of b.now))
-head_depth (Sum a b) = 1 + max (depth (schedule_of a.now)) (depth (schedule_of b.now))
-head_depth (Items a) = 1 + depth (schedule_of a.now)
+abbrev pub outline_depth : Outline → ℕ
+outline_depth Num = 0
+outline_depth (Pair a b) = 1 + max (depth (schedule_of a.now)) (depth (schedule_of b.now))
+outline_depth (Sum a b) = 1 + max (depth (schedule_of a.now)) (depth (schedule_of b.now))
+outline_depth (Items a) = 1 + depth (schedule_of a.now)
