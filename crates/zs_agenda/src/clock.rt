@@ -15,7 +15,7 @@ const MAX_TICKS: usize = 1_000_000;
 
 // Where the ticks come from: each millisecond up to a last one, or a rising list of moments.
 #[derive(Drop)]
-enum Source {
+enum TickSource {
     EveryMs(u64),
     Listed(Vec<u64>),
 }
@@ -24,7 +24,7 @@ enum Source {
 /// memory.
 #[derive(Drop)]
 pub struct Clock {
-    source: Source,
+    source: TickSource,
 }
 
 impl Model for Clock {
@@ -49,7 +49,7 @@ impl Clock {
     {
         if horizon <= MAX_HORIZON {
             Some(Clock {
-                source: Source::EveryMs(horizon),
+                source: TickSource::EveryMs(horizon),
             })
         } else {
             None
@@ -64,7 +64,7 @@ impl Clock {
     {
         if is_tick_list(&ticks) {
             Some(Clock {
-                source: Source::Listed(ticks),
+                source: TickSource::Listed(ticks),
             })
         } else {
             None
@@ -76,8 +76,8 @@ impl Clock {
         ensures same { IfOk result (λ copy. copy ≡ self.now) }
     {
         let source = match &self.source {
-            Source::EveryMs(last) => Source::EveryMs(*last),
-            Source::Listed(ticks) => Source::Listed(Vec::from_slice(alloc, ticks)?),
+            TickSource::EveryMs(last) => TickSource::EveryMs(*last),
+            TickSource::Listed(ticks) => TickSource::Listed(Vec::from_slice(alloc, ticks)?),
         };
         Ok(Clock { source })
     }
@@ -93,8 +93,8 @@ impl Clock {
         ensures lawful { IsClock self.now }
     {
         match &self.source {
-            Source::EveryMs(last) => *last,
-            Source::Listed(ticks) => last_of(ticks),
+            TickSource::EveryMs(last) => *last,
+            TickSource::Listed(ticks) => last_of(ticks),
         }
     }
 
@@ -107,8 +107,8 @@ impl Clock {
         ensures within { IfSome result (λ t. t ≤ horizon self.now) }
     {
         match &self.source {
-            Source::EveryMs(last) => if due <= *last { Some(due) } else { None },
-            Source::Listed(ticks) => first_from(ticks, due),
+            TickSource::EveryMs(last) => if due <= *last { Some(due) } else { None },
+            TickSource::Listed(ticks) => first_from(ticks, due),
         }
     }
 }

@@ -22,7 +22,7 @@ mod rule;
 
 use crate::batch::Batch;
 use crate::board::counter::{Counter, CounterSeat};
-use crate::board::rule::{Claims, InTurn, Puts, Sharing, Takes};
+use crate::board::rule::{ClaimSharing, Claims, InTurn, PutsBatch, TakesBatch};
 use crate::fault::PoolFault;
 use crossbeam_queue::{Pass, RuledArrayQueue};
 use std::alloc::Global;
@@ -30,14 +30,14 @@ use std::marker::Model;
 use std::sync::Wait;
 use std::thread;
 
-type Queue = RuledArrayQueue<Batch, Claims<Batch>, InTurn>;
+type BatchQueue = RuledArrayQueue<Batch, Claims<Batch>, InTurn>;
 
-type QueuePass = Pass<Batch, Claims<Batch>>;
+type BatchQueuePass = Pass<Batch, Claims<Batch>>;
 
 /// A work queue: batches in order, each claimed by one pass. Contracts know its identity.
 #[derive(Drop)]
 pub struct Board {
-    queue: Queue,
+    queue: BatchQueue,
     counter: Counter,
     size: u64,
 }
@@ -54,7 +54,7 @@ impl Model for Board {
 /// One thread's handle of a board: the right to claim batches.
 #[derive(Drop)]
 pub struct BoardPass {
-    queue: QueuePass,
+    queue: BatchQueuePass,
     seat: CounterSeat,
     none: bool,
 }
@@ -91,9 +91,9 @@ impl Board {
     {
         let size = batches.len();
         let (counter, seat) = Counter::new(alloc)?;
-        let (queue, mut queue_pass) = Queue::ruled(alloc, size.max(1))?;
+        let (queue, mut queue_pass) = BatchQueue::ruled(alloc, size.max(1))?;
         for batch in batches {
-            let Ok(()) = queue.push_as::<Puts, R>(rt, &mut queue_pass, batch) else {
+            let Ok(()) = queue.push_as::<PutsBatch, R>(rt, &mut queue_pass, batch) else {
                 unreachable!()
             };
         }
@@ -132,7 +132,7 @@ impl Board {
         ensures same { pass.new ≡ pass.old }
         ensures whole { pass.old.share ≡ max_moment → pass.old.none ≡ true → HasTakenAll pass.old }
     {
-        self.queue.learn_as::<Takes>(&mut pass.queue);
+        self.queue.learn_as::<TakesBatch>(&mut pass.queue);
         self.counter.look(&mut pass.seat);
     }
 
@@ -156,7 +156,7 @@ impl Board {
         ensures whole { IfNone result (pass.old.share ≡ max_moment → HasTakenAll pass.old) }
     {
         if !pass.none {
-            if let Some(batch) = self.queue.pop_as::<Takes, R>(rt, &mut pass.queue) {
+            if let Some(batch) = self.queue.pop_as::<TakesBatch, R>(rt, &mut pass.queue) {
                 self.counter.add(&mut pass.seat);
                 return Some(batch);
             }
@@ -184,7 +184,7 @@ impl Board {
         // `new` has allocated the room, so this allocates nothing.
         ensures succeeds { IsOk result }
     {
-        let queue = self.queue.another::<Sharing>(&mut pass.queue);
+        let queue = self.queue.another::<ClaimSharing>(&mut pass.queue);
         let seat = self.counter.split(&mut pass.seat);
         let none = pass.none;
         Ok((pass, BoardPass { queue, seat, none }))
@@ -198,7 +198,7 @@ impl Board {
         ensures whole { result.share ≡ max_moment → result.none ≡ true → HasTakenAll result }
     {
         let BoardPass { queue, seat, none } = other;
-        self.queue.absorb::<Sharing>(&mut pass.queue, queue);
+        self.queue.absorb::<ClaimSharing>(&mut pass.queue, queue);
         self.counter.join(&mut pass.seat, seat);
         pass.none = pass.none || none;
         self.learn_all_taken(&mut pass);
@@ -224,7 +224,7 @@ impl Board {
         ensures memory { IfErr result (λ e. e ≡ Memory) }
     {
         self.counter.look(&mut pass.seat);
-        self.queue.learn_as::<Takes>(&mut pass.queue);
+        self.queue.learn_as::<TakesBatch>(&mut pass.queue);
         drain(rt, alloc, &self.queue, &mut pass.queue)
     }
 }
@@ -233,8 +233,8 @@ impl Board {
 fn drain<R: Wait>(
     rt: &R,
     alloc: Global,
-    queue: &Queue,
-    pass: &mut QueuePass,
+    queue: &BatchQueue,
+    pass: &mut BatchQueuePass,
 ) -> Result<Vec<Batch>, PoolFault>
     requires pass { IsPassOf queue.now pass.old }
     requires whole { (view pass.old).share ≡ max_moment }
@@ -244,7 +244,7 @@ fn drain<R: Wait>(
 {
     let mut left = Vec::new(alloc);
     for _ in rt.forever() {
-        match queue.pop_as::<Takes, R>(rt, pass) {
+        match queue.pop_as::<TakesBatch, R>(rt, pass) {
             Some(batch) => left.push(batch)?,
             None => return Ok(left),
         }

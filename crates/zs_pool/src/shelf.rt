@@ -14,20 +14,20 @@ mod rule;
 
 use crate::fault::PoolFault;
 use crate::polled::Polled;
-use crate::shelf::rule::{EachOnce, Hands, Puts, Sharing, Takes};
+use crate::shelf::rule::{EachOnce, HandSharing, Hands, Puts, Takes};
 use crossbeam_queue::{Pass, RuledArrayQueue};
 use std::alloc::Global;
 use std::marker::Model;
 use std::sync::Wait;
 
-type Queue = RuledArrayQueue<Polled, Hands<Polled>, EachOnce>;
+type PolledQueue = RuledArrayQueue<Polled, Hands<Polled>, EachOnce>;
 
-type QueuePass = Pass<Polled, Hands<Polled>>;
+type PolledQueuePass = Pass<Polled, Hands<Polled>>;
 
 /// A bounded queue of polled batches. Contracts know its identity.
 #[derive(Drop)]
 pub struct Shelf {
-    queue: Queue,
+    queue: PolledQueue,
 }
 
 impl Model for Shelf {
@@ -41,7 +41,7 @@ impl Model for Shelf {
 /// One thread's handle of a shelf: the right to put and to take.
 #[derive(Drop)]
 pub struct ShelfPass {
-    queue: QueuePass,
+    queue: PolledQueuePass,
 }
 
 impl Model for ShelfPass {
@@ -69,7 +69,7 @@ impl Shelf {
         ensures room { IfOk result (λ r. r.0.slots ≡ capacity) }
         ensures memory { IfErr result (λ e. e ≡ Memory) }
     {
-        let (queue, pass) = Queue::ruled(alloc, capacity as usize)?;
+        let (queue, pass) = PolledQueue::ruled(alloc, capacity as usize)?;
         Ok((Shelf { queue }, ShelfPass { queue: pass }))
     }
 
@@ -125,7 +125,7 @@ impl Shelf {
         // `new` has allocated the room, so this allocates nothing.
         ensures succeeds { IsOk result }
     {
-        let queue = self.queue.another::<Sharing>(&mut pass.queue);
+        let queue = self.queue.another::<HandSharing>(&mut pass.queue);
         Ok((pass, ShelfPass { queue }))
     }
 
@@ -136,7 +136,7 @@ impl Shelf {
         ensures joined { result ≡ joined_shelver self.now pass other }
     {
         let ShelfPass { queue } = other;
-        self.queue.absorb::<Sharing>(&mut pass.queue, queue);
+        self.queue.absorb::<HandSharing>(&mut pass.queue, queue);
         pass
     }
 
@@ -161,8 +161,8 @@ impl Shelf {
 fn drain<R: Wait>(
     rt: &R,
     alloc: Global,
-    queue: &Queue,
-    pass: &mut QueuePass,
+    queue: &PolledQueue,
+    pass: &mut PolledQueuePass,
 ) -> Result<Vec<Polled>, PoolFault>
     requires pass { IsPassOf queue.now pass.old }
     requires whole { (view pass.old).share ≡ max_moment }

@@ -14,7 +14,7 @@ ghost use Rattle.zs_pool.specs.declared.fault.PoolFault.TheVariants.{Memory};
 mod rule;
 
 use crate::fault::PoolFault;
-use crate::tally::rule::{Counts, Exact, Fits, Notes, Sees, Sharing, Tallied};
+use crate::tally::rule::{Counts, Exact, Fits, Notes, Sees, Tallied, TallySharing};
 use atomic_table::{Seat, Table};
 use std::alloc::Global;
 use std::marker::Model;
@@ -114,7 +114,7 @@ impl Tally {
         // `n` becomes `n`.
         words.compare_exchange::<Notes>(&mut seat.seat, 0, n, n);
         seat.left -= n;
-        let seat = words.split_seat::<Sharing>(&mut seat.seat);
+        let seat = words.split_seat::<TallySharing>(&mut seat.seat);
         TallySeat { seat, left: n }
     }
 
@@ -126,7 +126,7 @@ impl Tally {
     {
         let TallySeat { seat: theirs, left } = other;
         let words = &self.table.shared;
-        words.join_seat::<Sharing>(&mut seat.seat, theirs);
+        words.join_seat::<TallySharing>(&mut seat.seat, theirs);
         // The sum of both allowances fits. The rule says so at every step, and this load is one.
         words.load::<Fits>(&mut seat.seat, 0);
         seat.left += left;

@@ -10,7 +10,7 @@ use crate::fault::StepFault;
 use crate::numbers::Numbers;
 use crate::state::{State, state_of};
 use crate::stepped::Stepped;
-use crate::stepping::{Step, Trace, join_lists, step_node};
+use crate::stepping::{StepInput, Trace, join_lists, step_node};
 use crate::view::{append, make_out};
 use std::alloc::{AllocError, Global};
 use zs_term::{Checked, Out};
@@ -101,7 +101,7 @@ impl Compiled {
         if join_lists(&mut self.state, self.alloc).is_err() {
             return Err(self.give_up());
         }
-        let step = Step {
+        let step = StepInput {
             alloc: self.alloc,
             moment: now,
             input,

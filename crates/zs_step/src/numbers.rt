@@ -44,7 +44,7 @@ impl Numbers {
     }
 
     // Returns the number that a test reads.
-    pub(crate) fn picked(self, pick: Pick) -> u64
+    pub(crate) fn pick(self, pick: Pick) -> u64
         ensures value { (o : Output) → IsNumbers self o → result ≡ picked pick o }
     {
         match (self, pick) {
@@ -57,16 +57,16 @@ impl Numbers {
     }
 
     // Returns what tests read of a function of the output, unless a piece of it has to be read.
-    pub(crate) fn mapped(self, func: Func) -> Option<Numbers>
+    pub(crate) fn apply(self, func: Func) -> Option<Numbers>
         ensures value { (o : Output) → IsNumbers self o
             → IfSome result (λ r. IsNumbers r (applied func o)) }
         ensures piece { result ≡ None → returns_piece func ≡ true }
     {
         match (func, self) {
             (Func::Const(n), _) => Some(Numbers::One(n)),
-            (Func::Add(n), _) => Some(Numbers::One(self.picked(Pick::Whole).saturating_add(n))),
-            (Func::Mul(n), _) => Some(Numbers::One(self.picked(Pick::Whole).saturating_mul(n))),
-            (Func::Size, _) => Some(Numbers::One(self.picked(Pick::Size))),
+            (Func::Add(n), _) => Some(Numbers::One(self.pick(Pick::Whole).saturating_add(n))),
+            (Func::Mul(n), _) => Some(Numbers::One(self.pick(Pick::Whole).saturating_mul(n))),
+            (Func::Size, _) => Some(Numbers::One(self.pick(Pick::Size))),
             (Func::First, Numbers::Two(n, _)) => Some(Numbers::One(n)),
             (Func::Second, Numbers::Two(_, n)) => Some(Numbers::One(n)),
             (Func::First | Func::Second, Numbers::Mixed(_, _)) => None,

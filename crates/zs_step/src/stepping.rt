@@ -19,7 +19,7 @@ use zs_term::{Pick, Test};
 
 // What every node needs to know of a step.
 #[derive(Clone, Copy)]
-pub(crate) struct Step {
+pub(crate) struct StepInput {
     pub(crate) alloc: Global,
     pub(crate) moment: u64,
     pub(crate) input: u64,
@@ -71,7 +71,7 @@ pub(crate) fn join_lists(state: &mut State, alloc: Global) -> Result<(), AllocEr
 // Steps and counts a node.
 #[cycle(stepping)]
 #[tactic(auto, using(crate::proofs::Steps::weight_some))]
-pub(crate) fn step_node(state: &mut State, step: &Step, trace: &mut Trace) -> Decision
+pub(crate) fn step_node(state: &mut State, step: &StepInput, trace: &mut Trace) -> Decision
     // The contract of each node: its result, its visits and new state, its unchanged schedule.
     requires within { trace.old.visits + weight (state_schedule state.old) < 2 ^ 64 }
     requires joined { IsJoined state.old }
@@ -97,7 +97,7 @@ pub(crate) fn step_node(state: &mut State, step: &Step, trace: &mut Trace) -> De
         }
         State::WhileOutput { part, pick, test } => {
             let decision = step_node(part, step, trace);
-            decision.only_if(test.passes(trace.numbers.picked(*pick)))
+            decision.only_if(test.passes(trace.numbers.pick(*pick)))
         }
         State::CollectAll { part, kept } => {
             let decision = step_node(part, step, trace);
@@ -117,7 +117,7 @@ pub(crate) fn step_node(state: &mut State, step: &Step, trace: &mut Trace) -> De
 // Steps both parts, and continues if both do.
 #[cycle(stepping)]
 #[inline(never)]
-fn step_both(parts: &mut (State, State), step: &Step, trace: &mut Trace) -> Decision
+fn step_both(parts: &mut (State, State), step: &StepInput, trace: &mut Trace) -> Decision
     requires within { trace.old.visits + weight (state_schedule parts.old.0)
         + weight (state_schedule parts.old.1) < 2 ^ 64 }
     requires joined { IsJoined parts.old.0 × IsJoined parts.old.1 }
@@ -139,7 +139,7 @@ fn step_both(parts: &mut (State, State), step: &Step, trace: &mut Trace) -> Deci
 // Steps both parts, and continues if at least one does.
 #[cycle(stepping)]
 #[inline(never)]
-fn step_either(parts: &mut (State, State), step: &Step, trace: &mut Trace) -> Decision
+fn step_either(parts: &mut (State, State), step: &StepInput, trace: &mut Trace) -> Decision
     requires within { trace.old.visits + weight (state_schedule parts.old.0)
         + weight (state_schedule parts.old.1) < 2 ^ 64 }
     requires joined { IsJoined parts.old.0 × IsJoined parts.old.1 }
@@ -165,7 +165,7 @@ fn step_either(parts: &mut (State, State), step: &Step, trace: &mut Trace) -> De
 fn step_and_then(
     done: &mut bool,
     parts: &mut (State, State),
-    step: &Step,
+    step: &StepInput,
     trace: &mut Trace,
 ) -> Decision
     requires within { trace.old.visits + weight (state_schedule parts.old.0)
@@ -200,7 +200,7 @@ fn step_reset_when(
     part: &mut State,
     pick: Pick,
     test: Test,
-    step: &Step,
+    step: &StepInput,
     trace: &mut Trace,
 ) -> Decision
     requires within { trace.old.visits + 2 * weight (state_schedule part.old) < 2 ^ 64 }
@@ -213,7 +213,7 @@ fn step_reset_when(
     ensures same { state_schedule part.new ≡ state_schedule part.old }
 {
     let decision = step_node(part, step, trace);
-    if !test.passes(trace.numbers.picked(pick)) {
+    if !test.passes(trace.numbers.pick(pick)) {
         return decision;
     }
     clear(part, step.alloc);

@@ -67,7 +67,7 @@ pub(crate) fn read_numbers(state: &State) -> Numbers
         }
         State::AndThen { .. } => Numbers::Side,
         State::CollectAll { kept, .. } => Numbers::Size(kept.len()),
-        State::Map { part, func } => match read_numbers(part).mapped(*func) {
+        State::Map { part, func } => match read_numbers(part).apply(*func) {
             Some(numbers) => numbers,
             None => unreachable!(),
         },
@@ -82,7 +82,7 @@ pub(crate) fn read_mapped(whole: Numbers, part: &State, func: Func) -> Numbers
     ensures value { IsNumbers whole (last_output part.now)
         → IsNumbers result (applied func (last_output part.now)) }
 {
-    match whole.mapped(func) {
+    match whole.apply(func) {
         Some(numbers) => numbers,
         None => read_numbers(piece(part, func)),
     }
@@ -105,7 +105,7 @@ pub(crate) fn make_out(alloc: Global, state: &State) -> Result<Out, AllocError>
             }
         }
         State::CollectAll { kept, .. } => Ok(Out::Items(kept.list().copy(alloc)?)),
-        node => Ok(Out::Num(read_numbers(node).picked(Pick::Whole))),
+        node => Ok(Out::Num(read_numbers(node).pick(Pick::Whole))),
     }
 }
 
@@ -139,7 +139,7 @@ pub(crate) fn append(text: &mut String, state: &State) -> Result<(), AllocError>
             text.push_str(")")
         }
         State::CollectAll { kept, .. } => append_outs(text, kept.list()),
-        node => append_number(text, read_numbers(node).picked(Pick::Whole)),
+        node => append_number(text, read_numbers(node).pick(Pick::Whole)),
     }
 }
 

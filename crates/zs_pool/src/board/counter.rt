@@ -6,7 +6,7 @@ ghost use Rattle.std.specs.Prelude.{◌≡◌, ◌+◌, ◌≤◌, ◌<◌, max,
 ghost use Rattle.zs_term.specs.Saturating.{max_moment};
 ghost use Rattle.zs_pool.specs.Counter.{counting, split_counting, joined_counting};
 
-use crate::board::counter_rule::{Adds, Count, Looks, Sharing, Summed};
+use crate::board::counter_rule::{Adds, Count, CountSharing, Looks, Summed};
 use atomic_table::{Seat, Table};
 use std::alloc::{AllocError, Global};
 use std::marker::Model;
@@ -84,7 +84,7 @@ impl Counter {
         ensures second { result ≡ counting self.now 1 0 seat.old.seen }
     {
         CounterSeat {
-            seat: self.table.shared.split_seat::<Sharing>(&mut seat.seat),
+            seat: self.table.shared.split_seat::<CountSharing>(&mut seat.seat),
         }
     }
 
@@ -95,6 +95,8 @@ impl Counter {
         ensures joined { seat.new ≡ joined_counting self.now seat.old other }
     {
         let CounterSeat { seat: more } = other;
-        self.table.shared.join_seat::<Sharing>(&mut seat.seat, more);
+        self.table
+            .shared
+            .join_seat::<CountSharing>(&mut seat.seat, more);
     }
 }

@@ -43,9 +43,9 @@ impl Play<(), Count> for Looks {
 }
 
 /// Splits off a seat with a share of 1, which counted nothing.
-pub(crate) struct Sharing;
+pub(crate) struct CountSharing;
 
-impl Split<Count> for Sharing {
+impl Split<Count> for CountSharing {
     ghost use Rattle.std.specs.Prelude.{◌-◌};
     ghost use Rattle.zs_pool.specs.Counter.{counted};
 
@@ -54,7 +54,7 @@ impl Split<Count> for Sharing {
     ghost right = { λ v. counted 1 0 v.seen };
 }
 
-impl Join<Count> for Sharing {
+impl Join<Count> for CountSharing {
     ghost use Rattle.std.specs.Prelude.{◌+◌, max};
     ghost use Rattle.zs_pool.specs.Counter.{counted};
 

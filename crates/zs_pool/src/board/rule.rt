@@ -27,40 +27,40 @@ impl<T> Protocol<T, Claims<T>> for InTurn {
 }
 
 /// Puts a batch.
-pub(crate) struct Puts;
+pub(crate) struct PutsBatch;
 
-impl<T> Outcome<T, Claims<T>> for Puts {
+impl<T> Outcome<T, Claims<T>> for PutsBatch {
     ghost use Rattle.std.specs.Prelude.{◌≡◌, ◌++◌, ◌∷◌, []};
     ghost use Rattle.zs_pool.specs.Board.{claims};
 
     ghost then = { λ v x w. w ≡ claims v.share (v.batches ++ x ∷ []) v.taken };
 }
 
-impl<T> Lesson<T, Claims<T>> for Puts {
+impl<T> Lesson<T, Claims<T>> for PutsBatch {
     ghost use Rattle.zs_pool.specs.Board.{IsRest};
 
     ghost fact = { IsRest };
 }
 
 /// Takes a batch.
-pub(crate) struct Takes;
+pub(crate) struct TakesBatch;
 
-impl<T> Outcome<T, Claims<T>> for Takes {
+impl<T> Outcome<T, Claims<T>> for TakesBatch {
     ghost use Rattle.zs_pool.specs.Board.{Took};
 
     ghost then = { Took };
 }
 
-impl<T> Lesson<T, Claims<T>> for Takes {
+impl<T> Lesson<T, Claims<T>> for TakesBatch {
     ghost use Rattle.zs_pool.specs.Board.{IsRest};
 
     ghost fact = { IsRest };
 }
 
 /// Splits off a pass with a share of 1, which took nothing.
-pub(crate) struct Sharing;
+pub(crate) struct ClaimSharing;
 
-impl<T> Split<Claims<T>> for Sharing {
+impl<T> Split<Claims<T>> for ClaimSharing {
     ghost use Rattle.std.specs.Prelude.{◌-◌, []};
     ghost use Rattle.zs_pool.specs.Board.{claims};
 
@@ -69,7 +69,7 @@ impl<T> Split<Claims<T>> for Sharing {
     ghost right = { λ v. claims 1 v.batches [] };
 }
 
-impl<T> Join<Claims<T>> for Sharing {
+impl<T> Join<Claims<T>> for ClaimSharing {
     ghost use Rattle.std.specs.Prelude.{◌+◌, ◌++◌, []};
     ghost use Rattle.zs_pool.specs.Board.{claims};
 

@@ -4,7 +4,7 @@ ghost use Rattle.std.specs.Vec.{vec_capacity};
 ghost use Rattle.zs_pool.specs.Limits.{max_workers, max_tasks};
 ghost use Rattle.zs_pool.specs.Batches.{AllPollable, AreNumbered, IsEachOnce, tasks_in};
 ghost use Rattle.zs_pool.specs.Messages.{IsPollAmong, numbers_of};
-ghost use Rattle.zs_pool.specs.Shares.{HasCounted, IsFirst, rooms};
+ghost use Rattle.zs_pool.specs.Shares.{HasCounted, IsFirst, rooms, sharing};
 ghost use Rattle.zs_pool.specs.Joined.{IsWhole};
 ghost use Rattle.zs_pool.specs.declared.fault.PoolFault.TheVariants.{Full};
 
@@ -28,7 +28,7 @@ const TRIES: u64 = 1000;
 // The result of a round whose helpers are joined, and the messages that were taken from the shelf
 // before that.
 #[derive(Drop)]
-struct Collected {
+struct Gathered {
     served: Served,
     messages: Vec<Polled>,
 }
@@ -66,7 +66,7 @@ impl<'s, G: Gate> Shared<'s, G> {
         alloc: Global,
         helpers: usize,
         rights: Rights,
-    ) -> Result<Collected, PoolFault>
+    ) -> Result<Gathered, PoolFault>
         requires first { IsFirst self helpers rights }
         ensures whole { IfOk result (λ c.
             IsWhole self.entry.moment rights c.served.rights c.served.overflow c.messages.items) }
@@ -77,7 +77,7 @@ impl<'s, G: Gate> Shared<'s, G> {
         let mut served = self.serve(rt, alloc, rights);
         self.collect(rt, &mut served.rights.shelf_pass, &mut messages);
         let served = self.join_all(rt, served, workers);
-        Ok(Collected { served, messages })
+        Ok(Gathered { served, messages })
     }
 }
 
@@ -88,7 +88,7 @@ fn run_scoped<G: Gate, R: Threads + Wait + Sync>(
     shared: Shared<'_, G>,
     helpers: usize,
     rights: Rights,
-) -> Result<Collected, PoolFault>
+) -> Result<Gathered, PoolFault>
     requires first { IsFirst shared helpers rights }
     ensures whole { IfOk result (λ c.
         IsWhole shared.entry.moment rights c.served.rights c.served.overflow c.messages.items) }
@@ -98,17 +98,9 @@ fn run_scoped<G: Gate, R: Threads + Wait + Sync>(
     thread::scope(
         thread::scope_env(),
         rt,
-        move |scope| -> Result<Collected, PoolFault>
-            requires first { IsFirst
-                (record {
-                  gate = shared.gate;
-                  board = shared.board;
-                  shelf = shared.shelf;
-                  tally = shared.tally;
-                  moment = moment;
-                  tasks = shared.tasks;
-                  batches = shared.batches;
-                }) helpers rights }
+        move |scope| -> Result<Gathered, PoolFault>
+            requires first { IsFirst (sharing shared.gate shared.board shared.shelf shared.tally
+                moment shared.tasks shared.batches) helpers rights }
             ensures whole { IfOk result (λ c.
                 IsWhole moment rights c.served.rights c.served.overflow c.messages.items) }
             ensures fault { IfErr result (λ e. e ≢ Full) }

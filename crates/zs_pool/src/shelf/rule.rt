@@ -59,9 +59,9 @@ impl<T> Lesson<T, Hands<T>> for Takes {
 }
 
 /// Splits off a pass with a share of 1, which put and took nothing.
-pub(crate) struct Sharing;
+pub(crate) struct HandSharing;
 
-impl<T> Split<Hands<T>> for Sharing {
+impl<T> Split<Hands<T>> for HandSharing {
     ghost use Rattle.std.specs.Prelude.{◌-◌, []};
     ghost use Rattle.zs_pool.specs.Shelf.{hands};
 
@@ -70,7 +70,7 @@ impl<T> Split<Hands<T>> for Sharing {
     ghost right = { λ v. hands 1 [] [] };
 }
 
-impl<T> Join<Hands<T>> for Sharing {
+impl<T> Join<Hands<T>> for HandSharing {
     ghost use Rattle.std.specs.Prelude.{◌+◌, ◌++◌, []};
     ghost use Rattle.zs_pool.specs.Shelf.{hands};
 

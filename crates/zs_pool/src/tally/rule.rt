@@ -63,9 +63,9 @@ impl Play<(), Tallied> for Fits {
 }
 
 /// Splits off a seat with the noted allowance, which counted nothing.
-pub(crate) struct Sharing;
+pub(crate) struct TallySharing;
 
-impl Split<Tallied> for Sharing {
+impl Split<Tallied> for TallySharing {
     ghost use Rattle.std.specs.Prelude.{◌-◌};
     ghost use Rattle.zs_pool.specs.Tally.{tallied};
 
@@ -74,7 +74,7 @@ impl Split<Tallied> for Sharing {
     ghost right = { λ v. tallied 0 v.noted v.seen 0 };
 }
 
-impl Join<Tallied> for Sharing {
+impl Join<Tallied> for TallySharing {
     ghost use Rattle.std.specs.Prelude.{◌+◌, max};
     ghost use Rattle.zs_pool.specs.Tally.{tallied};
 
