@@ -17,7 +17,7 @@ use Rattle.zs_step.specs.History.{History}
 use Rattle.zs_step.specs.Answer.{Answer, answer_of}
 use Rattle.zs_step.specs.Compiled.{compiled_schedule}
 use Rattle.zs_drive.specs.Timeline.{Timeline, timeline_of, poll_moments, number_of, beat_after, ended_attempt}
-use Rattle.zs_drive.specs.Told.{step_continued}
+use Rattle.zs_drive.specs.Stored.{step_continued}
 use Rattle.zs_drive.specs.Recorded.{AllContinued, IsStepped, runs}
 use Rattle.zs_drive.specs.DriverRules.{history_after}
 use Rattle.zs_drive.specs.Progress.{IsProgress, IsPhase, IsSteppedIn, HasState, job_in, moments_in, attempts_of, timeline_in, due_of, ending_of}

@@ -16,7 +16,7 @@ use Rattle.zs_drive.specs.declared.log.Log.TheVariants.{Written}
 use Rattle.zs_drive.specs.Values.{AttemptedValue, attempted_of, ended_of, step_of}
 use Rattle.zs_drive.specs.Timeline.{poll_moments, moments_of, with_moment}
 use Rattle.zs_drive.specs.Lines.{attempt_lines, attempts_lines}
-use Rattle.zs_drive.specs.Told.{continued, step_continued, told_of, recorded_of}
+use Rattle.zs_drive.specs.Stored.{continued, step_continued, told_of, recorded_of}
 use Rattle.zs_drive.specs.Recorded.{AllContinued, runs}
 use Rattle.zs_drive.specs.Log.{IsLog, IsSameLog, Tells, keeping_of, log_count, log_moments, records_in}
 use Rattle.zs_drive.proofs.Timing.{AllContinued-append}

@@ -9,7 +9,7 @@ pub mod Tasks
 pub mod DriverRules
 pub mod DriverLaws
 -- Named by the clauses of calls on which no headline depends.
-pub mod Told
+pub mod Stored
 -- What the code stores and writes. Only private contracts, views and invariants name these.
 pub mod ScheduleCode
 pub mod Recorded

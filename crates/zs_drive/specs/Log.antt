@@ -11,7 +11,7 @@ use Rattle.zs_drive.specs.declared.log.Log.TheVariants.{Recorded, Written}
 use Rattle.zs_drive.specs.Values.{AttemptedValue, attempted_of}
 use Rattle.zs_drive.specs.PollMoments.{moments_of, with_moment}
 use Rattle.zs_drive.specs.Lines.{attempt_lines, attempts_lines}
-use Rattle.zs_drive.specs.Told.{told_of, recorded_of}
+use Rattle.zs_drive.specs.Stored.{told_of, recorded_of}
 
 -- how it stores attempts
 abbrev pub keeping_of : Log → Keeping

@@ -7,7 +7,7 @@ use Rattle.zs_drive.specs.Clocks.{AreTicks}
 use Rattle.zs_drive.specs.Values.{JobRecord, AttemptedValue}
 use Rattle.zs_drive.specs.Timeline.{Timeline, timeline_of, poll_moments, beat_after}
 use Rattle.zs_drive.specs.DriverRules.{history_after}
-use Rattle.zs_drive.specs.Told.{continued}
+use Rattle.zs_drive.specs.Stored.{continued}
 
 -- the schedule continued after each attempt
 unfoldable pub AllContinued : List AttemptedValue → Type 0

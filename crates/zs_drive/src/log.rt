@@ -1,7 +1,7 @@
 //! What a task stores of its attempts.
 ghost use Rattle.std.specs.Prelude.{◌≡◌, ◌+◌, ◌<◌, ◌^◌, [], ◌∷◌, length, string_bytes, false, OnOk, OnErr};
 ghost use Rattle.zs_drive.specs.Values.{step_of};
-ghost use Rattle.zs_drive.specs.Told.{step_continued};
+ghost use Rattle.zs_drive.specs.Stored.{step_continued};
 ghost use Rattle.zs_drive.specs.Recorded.{runs};
 ghost use Rattle.zs_drive.specs.Turns.{BeginsNext, EndsLast, HasEnd, TellsLast, goes_on};
 ghost use Rattle.zs_drive.specs.Log.{IsFull, IsLog, IsSameLog, keeping_of, lines_in, log_count, records_in, told_in};

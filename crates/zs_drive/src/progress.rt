@@ -8,7 +8,7 @@ ghost use Rattle.zs_step.specs.Compiled.{compiled_term, last_seen};
 ghost use Rattle.zs_drive.specs.Log.{IsFull, keeping_of, log_count};
 ghost use Rattle.zs_drive.specs.Values.{step_of};
 ghost use Rattle.zs_drive.specs.Recorded.{runs};
-ghost use Rattle.zs_drive.specs.Told.{step_continued};
+ghost use Rattle.zs_drive.specs.Stored.{step_continued};
 ghost use Rattle.zs_drive.specs.Progress.{IsProgress, HasState, due_of, ending_of};
 ghost use Rattle.zs_drive.specs.Turns.{Advances, HasDecided, HasEnded, HasRunTo, IsDecided, IsDuePhase, IsEarly, IsOver, IsSame, IsTurn, IsWaitingTo, StandsAfter, StandsStill, TakesMemory, WasAsked, goes_on, started, turned};
 

@@ -5,7 +5,7 @@ ghost use Rattle.futures.specs.Task.{IsArmed, Keeps};
 ghost use Rattle.zs_effect.specs.Scripts.{IsScript};
 ghost use Rattle.zs_drive.specs.Clocks.{AreTicks, max_tick};
 ghost use Rattle.zs_drive.specs.Lines.{attempts_lines};
-ghost use Rattle.zs_drive.specs.Told.{told_of, recorded_of};
+ghost use Rattle.zs_drive.specs.Stored.{told_of, recorded_of};
 ghost use Rattle.zs_drive.specs.Values.{job_record, attempted_of};
 ghost use Rattle.zs_drive.specs.Timeline.{poll_moments};
 ghost use Rattle.zs_drive.specs.Tasks.{Breaks, EndsByOutcome, IsNotYetDue, MatchMemory, WasPolled, current_timeline, new_task};

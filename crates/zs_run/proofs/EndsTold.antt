@@ -20,7 +20,7 @@ use Rattle.zs_engine.specs.Times.{ticks_of}
 use Rattle.zs_engine.proofs.ClockTicks.{ticks-rising}
 use Rattle.zs_run.specs.Report.{last_ended}
 use Rattle.zs_run.specs.PlanReport.{job_report}
-use Rattle.zs_run.specs.Told.{HasItsEnd}
+use Rattle.zs_run.specs.Distinct.{HasItsEnd}
 
 -- ---- the last attempt
 

@@ -17,7 +17,7 @@ use Rattle.zs_drive.specs.Values.{JobRecord, AttemptedValue, EndedValue, attempt
 use Rattle.zs_drive.specs.Timeline.{timeline_of, ending_by_outcome}
 use Rattle.zs_drive.specs.DriverRules.{IsEnd, IsLast, StopsBy, StopsOn, asked_unless}
 use Rattle.zs_drive.specs.Lines.{attempts_lines}
-use Rattle.zs_drive.specs.Told.{continued, end_continued, is_next, step_continued, told_of, recorded_of}
+use Rattle.zs_drive.specs.Stored.{continued, end_continued, is_next, step_continued, told_of, recorded_of}
 use Rattle.zs_drive.proofs.Logging.{told-recorded, attempts_lines-append}
 use Rattle.zs_drive.proofs.Ruling.{timeline_of-rules}
 use Rattle.zs_run.specs.Report.{last_ended}

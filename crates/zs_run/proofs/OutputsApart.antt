@@ -2,7 +2,7 @@
 use Rattle.std.proofs.Common.{◌≡◌, ◌++◌, inl, inr, ℕ, List, ◌∷◌, codes, refl, sym, ap, ◌∙◌, arith, append_assoc}
 use Rattle.zs_term.specs.Output.{Output, Outputs, number, pair, left, right, listed, none, more}
 use Rattle.zs_term.specs.OutputText.{output_text, outputs_text, behind_text}
-use Rattle.zs_run.specs.Told.{OutputFits, OutputsFit}
+use Rattle.zs_run.specs.Distinct.{OutputFits, OutputsFit}
 use Rattle.zs_run.proofs.Splits.{EndsNumber, clash, rest_of_both, number_split, number_begins}
 
 -- ---- texts with what follows them

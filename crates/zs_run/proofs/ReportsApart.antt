@@ -14,7 +14,7 @@ use Rattle.zs_run.specs.Report.{JobReport, mode_text, end_line, job_lines, repor
 use Rattle.zs_agenda.specs.Ticks.{Ticks, every_ms, listed, horizon, IsClock}
 use Rattle.zs_run.specs.Plan.{PlanRecord}
 use Rattle.zs_run.specs.PlanReport.{report_of}
-use Rattle.zs_run.specs.Told.{Fits, CanBeTold, reported}
+use Rattle.zs_run.specs.Distinct.{Fits, CanBeTold, reported}
 use Rattle.zs_run.proofs.Splits.{clash, first_of_both, rest_of_both, number_split}
 use Rattle.zs_run.proofs.LinesApart.{attempts_split, end_text, end_is, ending_tells, line_split, first_of_all, others_of_all}
 

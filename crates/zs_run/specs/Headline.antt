@@ -1,9 +1,9 @@
 -- How a run ends. For success and for each fault: what was read, what was written, and whether
 -- reader or writer failed.
-use Rattle.std.specs.Prelude.{◌≡◌, ◌≢◌, ◌≤◌, ℕ, List, [], length, take, drop, Bool, true, false}
-use Rattle.std.specs.Prelude.{Option, Some, Result, Ok, Err, IfSome}
+use Rattle.std.specs.Prelude.{◌≡◌, ◌≢◌, ◌≤◌, ◌+◌, ℕ, List, [], length, take, drop, Bool, true}
+use Rattle.std.specs.Prelude.{false, Option, Some, Result, Ok, Err, IfSome}
 use Rattle.std.specs.Io.KnownBytes.{Appends}
-use Rattle.zs_run.specs.Plan.{PlanRecord, plan_of}
+use Rattle.zs_run.specs.Plan.{PlanRecord, max_bytes, plan_of}
 use Rattle.zs_run.specs.PlanReport.{report_of}
 use Rattle.zs_run.specs.declared.plan_fault.PlanFault.{PlanFault}
 use Rattle.zs_run.specs.declared.plan_fault.PlanFault.TheVariants as faults
@@ -27,7 +27,7 @@ pub record Writing : Type 0 where
 
 -- a run reads at most one byte more than a plan may have
 abbrev pub max_read : ℕ
-max_read = 16777217
+max_read = max_bytes + 1
 
 -- Some bytes are this plan. If the reader's bytes are known, they are these, and none remains.
 abbrev pub IsInput : Option (List ℕ) → Option (List ℕ) → PlanRecord → Type 0

@@ -12,7 +12,7 @@ pub mod Lawful
 pub mod Report
 pub mod ReportView
 pub mod PlanReport
-pub mod Told
+pub mod Distinct
 pub mod ReportLaws
 pub mod Status
 pub mod Marked

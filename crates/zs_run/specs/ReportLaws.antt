@@ -9,7 +9,7 @@ use Rattle.zs_engine.specs.Times.{ticks_of}
 use Rattle.zs_run.specs.Plan.{PlanRecord}
 use Rattle.zs_run.specs.PlanReport.{job_report, jobs_text, polls_of, report_of, with_total}
 use Rattle.zs_run.specs.Report.{JobReport, report_text}
-use Rattle.zs_run.specs.Told.{CanBeTold, Fits, HasItsEnd, reported}
+use Rattle.zs_run.specs.Distinct.{CanBeTold, Fits, HasItsEnd, reported}
 
 -- The report of a plan of two lists of jobs has the lines of both, and the sum of their polls.
 abbrev pub TwoPartsJoin : Type 0

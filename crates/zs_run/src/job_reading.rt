@@ -9,7 +9,7 @@ ghost use Rattle.zs_run.specs.declared.plan_fault.PlanFault.TheVariants as fault
 ghost use Rattle.zs_run.specs.Refusals.{Gives, passed_on};
 ghost use Rattle.zs_run.specs.Tree.{has_only_keys};
 ghost use Rattle.zs_run.specs.Shapes.{entry_keys, job_keys};
-ghost use Rattle.zs_run.specs.Names.{KnowsNames};
+ghost use Rattle.zs_run.specs.Names.{KnowsNames, LearnsName};
 ghost use Rattle.zs_run.specs.Jobs.{job_of, jobs_of, mode_of, script_of};
 
 use crate::entry::{beats_of, have_known_keys};
@@ -123,9 +123,7 @@ pub fn add_job(
     jobs: &mut Vec<Job>,
     job: Job,
 ) -> Result<(), PlanFault>
-    ensures names { OnOk result
-        ((earlier : List (List ℕ)) → KnowsNames names.old earlier
-        → KnowsNames names.new (earlier ++ (job_record job).name ∷ [])) }
+    ensures names { OnOk result (LearnsName names.old names.new (job_record job).name) }
     ensures jobs { OnOk result (jobs.new.items ≡ jobs.old.items ++ job ∷ []) }
     ensures err { IfErr result (λ fault. fault ≡ PlanFault.Memory) }
 {

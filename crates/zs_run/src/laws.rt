@@ -32,11 +32,8 @@ pub fn the_cut_changes_nothing()
 pub fn accepted_plans_are_lawful()
     ensures lawful { (bytes : List ℕ) (plan : PlanRecord) → plan_of bytes ≡ Ok plan
         → IsLawful plan }
-{}
-
-/// The tests of entries return a script exactly if the entries are one, and a fault exactly if it
-/// is their first. So a reader may believe either definition.
-pub fn scripts_are_tested()
+    // The tests of entries return a script exactly if the entries are one, and a fault exactly if
+    // it is their first. So a reader may believe either definition.
     ensures scripts { (beats script : List Beat) → (script_of beats ≡ Ok script)
         ↔ ((script ≡ beats) × IsScript beats) }
     ensures faults { (beats : List Beat) (fault : ScriptFault) → (script_of beats ≡ Err fault)

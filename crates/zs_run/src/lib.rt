@@ -33,12 +33,12 @@ pub use head::{Head, read_head, read_job};
 pub use job_reading::add_job;
 pub use laws::{
     accepted_plans_are_lawful, no_default_is_told, reports_join, reports_tell_apart,
-    scripts_are_tested, the_cut_changes_nothing,
+    the_cut_changes_nothing,
 };
 pub use marked::Marked;
 pub use plan::Plan;
 pub use plan_fault::PlanFault;
-pub use reading::read_plan;
+pub use reading::{MAX_BYTES, read_plan};
 pub use reporting::{append_jobs, append_total, report};
 pub use run_fault::{RunFault, exit_code, status};
 pub use running::run;

@@ -10,9 +10,9 @@ use zs_term::TermFault;
 
 // The document, or a job of it.
 #[derive(Drop)]
-struct Place(Option<u64>);
+struct PlanPlace(Option<u64>);
 
-impl fmt::Display for Place {
+impl fmt::Display for PlanPlace {
     fn fmt<W: fmt::Write>(&self, f: &mut fmt::Formatter<W>) -> fmt::Result {
         match self.0 {
             None => write!(f, "plan"),
@@ -32,19 +32,19 @@ pub enum PlanFault {
     #[error("plan is not JSON")]
     Json,
     /// A required part is missing, or has another type.
-    #[error("{place}: wrong shape", place = Place(*.job))]
+    #[error("{place}: wrong shape", place = PlanPlace(*.job))]
     Shape {
         /// The job, or the document.
         job: Option<u64>,
     },
     /// A key is unknown at its place.
-    #[error("{place}: unknown key", place = Place(*.job))]
+    #[error("{place}: unknown key", place = PlanPlace(*.job))]
     UnknownKey {
         /// The job, or the document.
         job: Option<u64>,
     },
     /// A number, a list or a mode outside its range.
-    #[error("{place}: out of range", place = Place(*.job))]
+    #[error("{place}: out of range", place = PlanPlace(*.job))]
     Range {
         /// The job, or the document.
         job: Option<u64>,

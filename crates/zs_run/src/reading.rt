@@ -17,7 +17,7 @@ use std::alloc::Global;
 use zs_pool::{Cut, MAX_TASKS};
 
 /// The most bytes of a plan.
-pub(crate) const MAX_BYTES: usize = 16_777_216;
+pub const MAX_BYTES: usize = 16_777_216;
 
 // The most jobs of a plan: the number that a round may poll.
 const MAX_JOBS: usize = MAX_TASKS as usize;

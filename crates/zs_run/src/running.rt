@@ -8,7 +8,7 @@ ghost use Rattle.zs_run.specs.PlanReads.{Reads, reading};
 
 use crate::plan::Plan;
 use crate::plan_fault::PlanFault;
-use crate::reading::read_plan;
+use crate::reading::{MAX_BYTES, read_plan};
 use crate::reporting::report;
 use crate::run_fault::RunFault;
 use crate::streams::{Drain, Source};
@@ -21,7 +21,7 @@ use zs_engine::{EngineFault, run_keeping};
 use zs_pool::Gate;
 
 // One byte more than a plan may have: enough to know that there are too many.
-const MAX_READ: usize = 16_777_217;
+const MAX_READ: usize = MAX_BYTES + 1;
 
 // The plan that the reader gives.
 fn read_source<R: Source>(alloc: Global, reader: &mut R) -> Result<Plan, RunFault>

@@ -1,7 +1,7 @@
 use Rattle.std.proofs.Common.{◌≡◌, ◌+◌, ◌++◌, List, length, map, string_bytes, sym, ◌∙◌, ap, append_assoc}
 use Rattle.zs_drive.specs.Values.{AttemptedValue, attempted_of}
 use Rattle.zs_drive.specs.Lines.{attempts_lines}
-use Rattle.zs_drive.specs.Told.{told_of, recorded_of}
+use Rattle.zs_drive.specs.Stored.{told_of, recorded_of}
 use Rattle.zs_drive.specs.Tasks.{current_timeline}
 use Rattle.zs_run.proofs.Keeping.{told-lines}
 use Rattle.zs_run.proofs.reporting.push_task.Goals as goal
