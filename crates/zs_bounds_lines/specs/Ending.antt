@@ -12,26 +12,6 @@ use Rattle.zs_bounds_lines.specs.declared.fault.BoundsFault.TheVariants.{Read, L
 use Rattle.zs_bounds_lines.specs.declared.fault.BoundsFault.TheVariants.{Words}
 use Rattle.zs_bounds_lines.specs.declared.options.Options.{Options}
 
--- a reader before and after a call
-abbrev pub reading : {R : Type 0} → (R → Option (List ℕ)) → (R → Bool) → R → R → Reading
-reading remaining mark old new =
-    record { before = remaining old; left = remaining new; failed = mark new }
-
--- a writer before and after a call
-abbrev pub writing : {W : Type 0} → (W → Option (List ℕ)) → (W → Bool) → (W → Bool)
-    → W → W → Writing
-writing contents mark flushed old new = record {
-  before = contents old;
-  taken = contents new;
-  failed = mark new;
-  flushed = flushed new;
-}
-
--- A writer before and after a call has property P, which also takes whether it is unchanged.
-abbrev pub ByWriter : {W : Type 0} → (W → Option (List ℕ)) → (W → Bool) → (W → Bool) → W → W
-    → (Writing → Type 0 → Type 0) → Type 0
-ByWriter contents mark flushed old new P = P (writing contents mark flushed old new) (new ≡ old)
-
 -- what is seen of the writer after a text: it was flushed, or it is unchanged if there is no text
 abbrev pub IsWhole : List ℕ → Bool → Type 0 → Type 0
 IsWhole [] flushed Untouched = Untouched

@@ -1,5 +1,6 @@
 //! Bounds as a line of JSON.
-ghost use Rattle.std.specs.Prelude.{◌≡◌, ◌++◌, OnOk, IfOk, string_bytes};
+ghost use Rattle.std.specs.Prelude.{◌≡◌, OnOk, IfOk, string_bytes};
+ghost use Rattle.zs_term.specs.OutputText.{Adds};
 ghost use Rattle.zs_term.specs.Schedule.{schedule_of};
 ghost use Rattle.zs_bounds_lines.specs.BoundsLines.{bounds_line, json_line, limit_text, range_text, times_text, truth_text};
 
@@ -10,7 +11,7 @@ use zs_term::{Checked, write};
 
 // Appends a number, or null.
 fn push_limit(text: &mut String, limit: Option<u64>) -> Result<(), AllocError>
-    ensures text { OnOk result (string_bytes text.new ≡ string_bytes text.old ++ limit_text limit) }
+    ensures text { OnOk result (Adds text.old text.new (limit_text limit)) }
 {
     match limit {
         Some(number) => write!(text, "{number}"),
@@ -20,7 +21,7 @@ fn push_limit(text: &mut String, limit: Option<u64>) -> Result<(), AllocError>
 
 // Appends whether something is so.
 fn push_truth(text: &mut String, truth: bool) -> Result<(), AllocError>
-    ensures text { OnOk result (string_bytes text.new ≡ string_bytes text.old ++ truth_text truth) }
+    ensures text { OnOk result (Adds text.old text.new (truth_text truth)) }
 {
     if truth {
         text.push_str("true")
@@ -31,8 +32,7 @@ fn push_truth(text: &mut String, truth: bool) -> Result<(), AllocError>
 
 // Appends the least and the most of something.
 fn push_range(text: &mut String, least: u64, most: Option<u64>) -> Result<(), AllocError>
-    ensures text { OnOk result
-        (string_bytes text.new ≡ string_bytes text.old ++ range_text least most) }
+    ensures text { OnOk result (Adds text.old text.new (range_text least most)) }
 {
     write!(text, "{{\"least\":{least},\"most\":")?;
     push_limit(text, most)?;
@@ -42,8 +42,7 @@ fn push_range(text: &mut String, least: u64, most: Option<u64>) -> Result<(), Al
 
 // Appends the longest wait, all waits, and the longest run.
 fn push_times(text: &mut String, told: &Bounds) -> Result<(), AllocError>
-    ensures text { OnOk result
-        (string_bytes text.new ≡ string_bytes text.old ++ times_text told.now) }
+    ensures text { OnOk result (Adds text.old text.new (times_text told.now)) }
 {
     let longest = told.longest;
     write!(text, ",\"longest_wait\":{longest},\"total_wait\":")?;
@@ -63,8 +62,7 @@ fn push_line(
     told: &Bounds,
 ) -> Result<(), AllocError>
     ensures text { OnOk result
-        (string_bytes text.new ≡ string_bytes text.old
-        ++ json_line policy.now attempt endless told.now) }
+        (Adds text.old text.new (json_line policy.now attempt endless told.now)) }
 {
     write!(text, "{{\"policy\":\"{policy}\",\"attempt\":")?;
     push_range(text, attempt.least, attempt.most)?;

@@ -1,6 +1,6 @@
 //! The program, by the words of its command line.
 ghost use Rattle.std.specs.Prelude.{◌≡◌, false, map, string_bytes};
-ghost use Rattle.zs_bounds_lines.specs.Ending.{ByWriter, reading, writing};
+ghost use Rattle.zs_lines.specs.Streams.{ByWriter, reading, writing};
 ghost use Rattle.zs_bounds_lines.specs.Words.{WordsEnd, WroteText, reads_lines};
 ghost use Rattle.zs_bounds_lines.specs.Words.{request_from, usual_options};
 

@@ -1,6 +1,7 @@
 //! The run over the lines of a reader.
 ghost use Rattle.std.specs.Prelude.{◌≡◌, ◌↔◌, false, IsErrOf, IsTrue};
-ghost use Rattle.zs_bounds_lines.specs.Ending.{ByWriter, Ends, reading};
+ghost use Rattle.zs_lines.specs.Streams.{ByWriter, reading};
+ghost use Rattle.zs_bounds_lines.specs.Ending.{Ends};
 ghost use Rattle.zs_bounds_lines.specs.Steps.{LineEnds};
 
 use crate::fault::BoundsFault;

@@ -1,7 +1,7 @@
 -- Bytes that were read and not used yet, and the lines that come next.
 use Rattle.std.specs.Prelude.{◌≡◌, ◌<◌, ℕ, List, [], ◌∷◌, ◌++◌, ◌==◌, length, Bool, true, false, ⊤}
 use Rattle.std.specs.Prelude.{Option, None, Some, IfSome, Result, Ok, Err}
-use Rattle.std.specs.Io.KnownBytes.{IsAtEnd}
+use Rattle.std.specs.Io.KnownBytes.{IsAtEnd, prepend_known}
 use Rattle.zs_lines.specs.Lines.{lines_of}
 use Rattle.zs_lines.specs.declared.buffer.LineFault.{LineFault}
 use Rattle.zs_lines.specs.declared.buffer.LineFault.TheVariants.{Read, TooLong, Memory}
@@ -9,6 +9,10 @@ use Rattle.zs_lines.specs.declared.buffer.LineFault.TheVariants.{Read, TooLong, 
 -- how many bytes are read at a time, at most
 abbrev pub chunk : ℕ
 chunk = 65536
+
+-- the bytes that come next: those of the buffer, then the reader's
+abbrev pub ahead : {R : Type 0} → (R → Option (List ℕ)) → List ℕ → R → Option (List ℕ)
+ahead remaining buffer reader = prepend_known buffer (remaining reader)
 
 -- none of the bytes is a newline
 abbrev pub IsOneLine : List ℕ → Type 0

@@ -80,9 +80,9 @@ impl Buffer {
         requires empty { self.old ≡ [] }
         ensures some { result ≡ Ok true → (0 < length self.new)
             × Consumes (R.remaining reader.old) (R.remaining reader.new) self.new }
-        ensures none { result ≡ Ok false → (self.new ≡ [])
-            × Consumes (R.remaining reader.old) (R.remaining reader.new) []
-            × IsAtEnd (R.remaining reader.new) }
+        ensures none { result ≡ Ok false → self.new ≡ [] }
+        ensures end { result ≡ Ok false → IsAtEnd (R.remaining reader.new)
+            × Consumes (R.remaining reader.old) (R.remaining reader.new) [] }
         ensures marks { IsTrue (R.mark reader.new) ↔ IsErrOf result LineFault.Read }
         ensures fault { result ≡ Err LineFault.TooLong → ⊥ }
     {

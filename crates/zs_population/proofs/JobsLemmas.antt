@@ -9,11 +9,11 @@ use Rattle.zs_run.specs.Head.{HeadRecord, head_of, job_of_bytes}
 use Rattle.zs_lines.specs.Lines.{lines_of}
 use Rattle.zs_lines.specs.Buffers.{BeginsWith, Took}
 use Rattle.zs_population.specs.Ending.{WasRefused}
-use Rattle.zs_population.specs.Population.{Refusal, job_at, jobs_at, max_population, population_of, ◌>>=◌}
+use Rattle.zs_population.specs.Population.{RejectedLine, job_at, jobs_at, max_population, population_of, ◌>>=◌}
 use Rattle.zs_population.specs.Reads.{names_of}
 
 abbrev Jobs : Type 0
-Jobs = Result (List JobRecord) Refusal
+Jobs = Result (List JobRecord) RejectedLine
 
 -- jobs in front of what comes next
 abbrev behind : List JobRecord → Jobs → Jobs
@@ -28,7 +28,7 @@ behind-one job front (Ok jobs) = refl
 behind-one job front (Err e) = refl
 
 -- what was found first, if all was found
-found : {A B : Type 0} (r : Result A Refusal) (f : A → Result B Refusal) (b : B) → r >>= f ≡ Ok b → (a : A) × (r ≡ Ok a) × (f a ≡ Ok b)
+found : {A B : Type 0} (r : Result A RejectedLine) (f : A → Result B RejectedLine) (b : B) → r >>= f ≡ Ok b → (a : A) × (r ≡ Ok a) × (f a ≡ Ok b)
 found (Ok a) f b is = (a, refl, is)
 found (Err e) f b is = absurd (let no : Err e ≡ Ok b = is in cc)
 
@@ -74,7 +74,7 @@ pub jobs-joined : (number : ℕ) (names : List (List ℕ)) (xs ys : List (List �
 jobs-joined number names xs ys jobs more are next = jobs-append number names xs ys jobs are ∙ ap (behind jobs) next
 
 -- a line that is rejected
-pub jobs-refused : (number : ℕ) (names : List (List ℕ)) (xs ys : List (List ℕ)) (jobs : List JobRecord) (refusal : Refusal) → jobs_at number names xs ≡ Ok jobs
+pub jobs-refused : (number : ℕ) (names : List (List ℕ)) (xs ys : List (List ℕ)) (jobs : List JobRecord) (refusal : RejectedLine) → jobs_at number names xs ≡ Ok jobs
     → jobs_at (number + length jobs) (names ++ names_of jobs) ys ≡ Err refusal → jobs_at number names (xs ++ ys) ≡ Err refusal
 jobs-refused number names xs ys jobs refusal are next = jobs-append number names xs ys jobs are ∙ ap (behind jobs) next
 
@@ -85,22 +85,22 @@ unfolding jobs_at
 one-job number names line job is = rw is refl
 
 -- one line that is rejected, and any after it
-pub one-refused : (number : ℕ) (names : List (List ℕ)) (line : List ℕ) (rest : List (List ℕ)) (refusal : Refusal) → job_at number names line ≡ Err refusal
+pub one-refused : (number : ℕ) (names : List (List ℕ)) (line : List ℕ) (rest : List (List ℕ)) (refusal : RejectedLine) → job_at number names line ≡ Err refusal
     → jobs_at number names (line ∷ rest) ≡ Err refusal
 unfolding jobs_at
 one-refused number names line rest refusal is = rw is refl
 
-refused-on : {A B : Type 0} (r : Result A Refusal) (f g : A → Result B Refusal) (refusal : Refusal) → ((a : A) → f a ≡ Err refusal → g a ≡ Err refusal)
+refused-on : {A B : Type 0} (r : Result A RejectedLine) (f g : A → Result B RejectedLine) (refusal : RejectedLine) → ((a : A) → f a ≡ Err refusal → g a ≡ Err refusal)
     → r >>= f ≡ Err refusal → r >>= g ≡ Err refusal
 refused-on (Ok a) f g refusal goes is = goes a is
 refused-on (Err e) f g refusal goes is = let same : Err e ≡ Err refusal = is in cc
 
-refused-before : (job : JobRecord) (rest : Jobs) (refusal : Refusal) → rest >>= (λ jobs. Ok (job ∷ jobs)) ≡ Err refusal → rest ≡ Err refusal
+refused-before : (job : JobRecord) (rest : Jobs) (refusal : RejectedLine) → rest >>= (λ jobs. Ok (job ∷ jobs)) ≡ Err refusal → rest ≡ Err refusal
 refused-before job (Ok jobs) refusal is = absurd (let no : Ok (job ∷ jobs) ≡ Err refusal = is in cc)
 refused-before job (Err e) refusal is = let same : Err e ≡ Err refusal = is in cc
 
 -- What comes after a rejected line changes nothing.
-pub refused-stays : (number : ℕ) (names : List (List ℕ)) (xs ys : List (List ℕ)) (refusal : Refusal) → jobs_at number names xs ≡ Err refusal
+pub refused-stays : (number : ℕ) (names : List (List ℕ)) (xs ys : List (List ℕ)) (refusal : RejectedLine) → jobs_at number names xs ≡ Err refusal
     → jobs_at number names (xs ++ ys) ≡ Err refusal
 unfolding jobs_at
 refused-stays number names [] ys refusal is = absurd (let no : Ok [] ≡ Err refusal = is in cc)
@@ -120,7 +120,7 @@ pub populated : (first : List ℕ) (lines : List (List ℕ)) (head : HeadRecord)
 unfolding population_of
 populated first lines head jobs is are = rw (is, are) refl
 
-refused-job : (first : List ℕ) (lines : List (List ℕ)) (head : HeadRecord) (refusal : Refusal) → head_of first ≡ Ok head
+refused-job : (first : List ℕ) (lines : List (List ℕ)) (head : HeadRecord) (refusal : RejectedLine) → head_of first ≡ Ok head
     → jobs_at 0 [] lines ≡ Err refusal → population_of (first ∷ lines) ≡ Err refusal
 unfolding population_of
 refused-job first lines head refusal is are = rw (is, are) refl
@@ -137,7 +137,7 @@ head-refused None first fault is begins = (first ∷ [], refused-head first [] f
 head-refused (Some xs) first fault is begins = (first ∷ begins.0, refused-head first begins.0 fault is, begins.1)
 
 -- a line after the head is no job
-pub job-refused : (known : Option (List ℕ)) (first : List ℕ) (lines : List (List ℕ)) (head : HeadRecord) (refusal : Refusal) → head_of first ≡ Ok head
+pub job-refused : (known : Option (List ℕ)) (first : List ℕ) (lines : List (List ℕ)) (head : HeadRecord) (refusal : RejectedLine) → head_of first ≡ Ok head
     → jobs_at 0 [] lines ≡ Err refusal → BeginsWith known (first ∷ lines) → WasRefused known refusal
 job-refused None first lines head refusal is are begins = (first ∷ lines, refused-job first lines head refusal is are, tt)
 job-refused (Some xs) first lines head refusal is are begins =

@@ -9,40 +9,42 @@ use Rattle.zs_run.specs.declared.plan_fault.PlanFault.TheVariants as faults
 use Rattle.zs_run.specs.Refusals.{demand}
 use Rattle.zs_run.specs.Head.{head_of, job_of_bytes}
 use Rattle.zs_run.specs.Plan.{PlanRecord}
+use Rattle.zs_population.specs.declared.block.TheConstants.{MAX_POPULATION}
 
 -- the most jobs of a population
 abbrev pub max_population : ℕ
-max_population = 1000000000000000
+max_population = MAX_POPULATION
 
 -- the number of jobs that run together and are written together
 abbrev pub block_jobs : ℕ
 block_jobs = max_tasks
 
 -- a line that is rejected, counted from 1, and its fault
-pub record Refusal : Type 0 where
+pub record RejectedLine : Type 0 where
   pub line : ℕ
   pub fault : PlanFault
 
 infixl 10 ◌>>=◌
 -- what comes next, unless a line is rejected
-abbrev pub ◌>>=◌ : {A B : Type 0} → Result A Refusal → (A → Result B Refusal) → Result B Refusal
+abbrev pub ◌>>=◌ : {A B : Type 0} → Result A RejectedLine → (A → Result B RejectedLine)
+    → Result B RejectedLine
 (Ok x) >>= f = f x
 (Err e) >>= f = Err e
 
 -- what was found in a line, or the line with its fault
-abbrev pub at_line : {A : Type 0} → ℕ → Result A PlanFault → Result A Refusal
+abbrev pub at_line : {A : Type 0} → ℕ → Result A PlanFault → Result A RejectedLine
 at_line line (Ok x) = Ok x
 at_line line (Err fault) = Err (record { line = line; fault = fault })
 
 -- the job of a line, with this number, after jobs of these names
-unfoldable pub job_at : ℕ → List (List ℕ) → List ℕ → Result JobRecord Refusal
+unfoldable pub job_at : ℕ → List (List ℕ) → List ℕ → Result JobRecord RejectedLine
 job_at number names line = do
   job ← at_line (number + 2) (job_of_bytes number names line)
   _ ← at_line (number + 2) (demand (nat_lt number max_population) (faults.Range None))
   Ok job
 
 -- the jobs of lines, from this number on, after jobs of these names
-unfoldable pub jobs_at : ℕ → List (List ℕ) → List (List ℕ) → Result (List JobRecord) Refusal
+unfoldable pub jobs_at : ℕ → List (List ℕ) → List (List ℕ) → Result (List JobRecord) RejectedLine
 jobs_at number names [] = Ok []
 jobs_at number names (line ∷ lines) = do
   job ← job_at number names line
@@ -50,7 +52,7 @@ jobs_at number names (line ∷ lines) = do
   Ok (job ∷ jobs)
 
 -- the population of lines
-unfoldable pub population_of : List (List ℕ) → Result PlanRecord Refusal
+unfoldable pub population_of : List (List ℕ) → Result PlanRecord RejectedLine
 population_of [] = Err (record { line = 1; fault = faults.Json })
 population_of (first ∷ lines) = do
   head ← at_line 1 (head_of first)

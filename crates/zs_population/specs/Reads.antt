@@ -3,12 +3,13 @@ use Rattle.std.specs.Prelude.{◌≡◌, ◌≢◌, ◌<◌, ℕ, ◌+◌, List,
 use Rattle.std.specs.BTreeSet.{BTreeSet}
 use Rattle.std.proofs.Common.{String, Global}
 use Rattle.zs_drive.specs.Values.{JobRecord}
+use Rattle.zs_run.specs.Head.{HeadRecord, head_of}
 use Rattle.zs_run.specs.Names.{KnowsNames}
 use Rattle.zs_run.specs.declared.plan_fault.PlanFault.{PlanFault}
 use Rattle.zs_run.specs.declared.plan_fault.PlanFault.TheVariants as faults
 use Rattle.zs_lines.specs.Buffers.{BeginsWith, Took}
 use Rattle.zs_population.specs.Ending.{WasRefused}
-use Rattle.zs_population.specs.Population.{Refusal, block_jobs, job_at, jobs_at}
+use Rattle.zs_population.specs.Population.{RejectedLine, block_jobs, job_at, jobs_at}
 use Rattle.zs_lines.specs.declared.buffer.LineFault.{LineFault}
 use Rattle.zs_lines.specs.declared.buffer.LineFault.TheVariants as unread
 use Rattle.zs_population.specs.declared.fault.PopulationFault.{PopulationFault}
@@ -24,6 +25,10 @@ abbrev pub line_fault_of : ℕ → LineFault → PopulationFault
 line_fault_of line unread.Read = Read
 line_fault_of line unread.TooLong = Line line faults.TooLong
 line_fault_of line unread.Memory = Line line faults.Memory
+
+-- A line was taken that is this head.
+abbrev pub HeadReads : Option (List ℕ) → Option (List ℕ) → HeadRecord → Type 0
+HeadReads old new head = (first : List ℕ) × (head_of first ≡ Ok head) × Took old new (first ∷ [])
 
 -- The line is a job with this number. It was added to the jobs before, and its name to the set.
 abbrev pub AddsJob : ℕ → BTreeSet (String Global) → BTreeSet (String Global) → List ℕ
@@ -46,7 +51,7 @@ BlockReads first old new known now jobs = (earlier : List (List ℕ)) → KnowsN
     × KnowsNames now (earlier ++ names_of jobs)
 
 -- One of the next lines is rejected, and the lines before it are jobs.
-abbrev pub BlockRefused : ℕ → Option (List ℕ) → BTreeSet (String Global) → Refusal → Type 0
+abbrev pub BlockRefused : ℕ → Option (List ℕ) → BTreeSet (String Global) → RejectedLine → Type 0
 BlockRefused first old known refusal = (earlier : List (List ℕ)) → KnowsNames known earlier
     → (lines : List (List ℕ)) × BeginsWith old lines × (jobs_at first earlier lines ≡ Err refusal)
 

@@ -1,16 +1,16 @@
 //! Blocks of jobs: read, run and written.
-ghost use Rattle.std.specs.Prelude.{◌≡◌, ◌≤◌, ◌<◌, ◌+◌, ◌^◌, ◌∷◌, ◌++◌, ◌↔◌, [], ℕ, List, map, length, take, Ok, Err, true, false, is_err, IfOk, IfErr, OnOk, IsErrOf, IsTrue, string_bytes};
-ghost use Rattle.std.specs.Io.KnownBytes.{Appends, IsAtEnd, prepend_known};
+ghost use Rattle.std.specs.Prelude.{◌≡◌, ◌≤◌, ◌<◌, ◌+◌, ◌^◌, ◌↔◌, ℕ, List, map, length, Ok, Err, true, false, is_err, IfOk, IfErr, OnOk, IsErrOf, IsTrue, string_bytes};
+ghost use Rattle.std.specs.Io.KnownBytes.{Appends, IsAtEnd};
 ghost use Rattle.zs_drive.specs.Values.{job_record};
-ghost use Rattle.zs_run.specs.Head.{head_of};
 ghost use Rattle.zs_run.specs.HeadView.{head_record};
 ghost use Rattle.zs_run.specs.Names.{KnowsNames};
 ghost use Rattle.zs_run.specs.Plan.{max_jobs};
 ghost use Rattle.zs_run.specs.PlanReport.{jobs_text, polls_of, with_total};
 ghost use Rattle.zs_run.specs.PlanView.{plan_record};
-ghost use Rattle.zs_lines.specs.Buffers.{Took};
+ghost use Rattle.zs_lines.specs.Buffers.{ahead};
+ghost use Rattle.zs_population.specs.Ending.{SentPart};
 ghost use Rattle.zs_population.specs.Population.{block_jobs, job_at, max_population};
-ghost use Rattle.zs_population.specs.Reads.{AddsJob, BlockFault, BlockReads, HeadFault, IsNoJob, line_fault_of};
+ghost use Rattle.zs_population.specs.Reads.{AddsJob, BlockFault, BlockReads, HeadFault, HeadReads, IsNoJob, line_fault_of};
 
 use crate::fault::PopulationFault;
 use std::alloc::Global;
@@ -22,15 +22,12 @@ use zs_engine::{EngineFault, run_keeping};
 use zs_lines::{Buffer, LineFault};
 use zs_pool::{Gate, MAX_TASKS};
 use zs_run::{
-    Drain, Head, Plan, PlanFault, Source, add_job, append_jobs, append_total, read_head, read_job,
-    write_all,
+    Drain, Head, MAX_BYTES, Plan, PlanFault, Source, add_job, append_jobs, append_total, read_head,
+    read_job, write_all,
 };
 
 /// The most jobs of a block: the most that a round may poll.
 pub(crate) const BLOCK: usize = MAX_TASKS as usize;
-
-// The most bytes of a line without its newline: the most of a plan.
-const MAX_LINE: usize = 16_777_216;
 
 // The most jobs of a population.
 const MAX_POPULATION: u64 = 1_000_000_000_000_000;
@@ -59,14 +56,13 @@ pub(crate) fn read_first<R: Source>(
     buffer: &mut Buffer,
 ) -> Result<Head, PopulationFault>
     requires clear { R.mark reader.old ≡ false }
-    ensures head { IfOk result (λ head. (first : List ℕ) × (head_of first ≡ Ok (head_record head))
-        × Took (prepend_known buffer.old (R.remaining reader.old))
-        (prepend_known buffer.new (R.remaining reader.new)) (first ∷ [])) }
-    ensures fault { IfErr result (HeadFault (prepend_known buffer.old (R.remaining reader.old))) }
+    ensures head { IfOk result (λ head. HeadReads (ahead R.remaining buffer.old reader.old)
+        (ahead R.remaining buffer.new reader.new) (head_record head)) }
+    ensures fault { IfErr result (HeadFault (ahead R.remaining buffer.old reader.old)) }
     ensures marks { IsTrue (R.mark reader.new) ↔ IsErrOf result PopulationFault.Read }
 {
     let mut line = Vec::new(alloc);
-    match buffer.next_line(reader, &mut line, MAX_LINE) {
+    match buffer.next_line(reader, &mut line, MAX_BYTES) {
         Ok(true) => {}
         Ok(false) => {
             return Err(PopulationFault::Line {
@@ -132,21 +128,19 @@ pub(crate) fn read_block<R: Source>(
     requires few { first ≤ max_population }
     ensures block { IfOk result (λ jobs. length jobs.items ≤ block_jobs) }
     ensures few { IfOk result (λ jobs. first + length jobs.items ≤ max_population) }
-    ensures jobs { IfOk result (λ jobs. BlockReads first
-        (prepend_known buffer.old (R.remaining reader.old))
-        (prepend_known buffer.new (R.remaining reader.new))
-        names.old names.new (map job_record jobs.items)) }
+    ensures jobs { IfOk result (λ jobs. BlockReads first (ahead R.remaining buffer.old reader.old)
+        (ahead R.remaining buffer.new reader.new) names.old names.new (map job_record jobs.items)) }
     ensures last { IfOk result (λ jobs. length jobs.items < block_jobs
-        → IsAtEnd (prepend_known buffer.new (R.remaining reader.new))) }
-    ensures fault { IfErr result (BlockFault first
-        (prepend_known buffer.old (R.remaining reader.old)) names.old) }
+        → IsAtEnd (ahead R.remaining buffer.new reader.new)) }
+    ensures fault { IfErr result
+        (BlockFault first (ahead R.remaining buffer.old reader.old) names.old) }
     ensures marks { IsTrue (R.mark reader.new) ↔ IsErrOf result PopulationFault.Read }
 {
     let mut jobs = Vec::new(alloc);
     let mut line = Vec::new(alloc);
     while jobs.len() < BLOCK {
         let number = first + jobs.len() as u64;
-        match buffer.next_line(reader, &mut line, MAX_LINE) {
+        match buffer.next_line(reader, &mut line, MAX_BYTES) {
             Ok(true) => {}
             Ok(false) => return Ok(jobs),
             Err(fault) => return Err(line_fault(number + 2, fault)),
@@ -198,8 +192,7 @@ pub(crate) fn run_block<T: Threads + Wait + Sync, G: Gate>(
         ≡ polls.old + polls_of (head_record head.now).clock (map job_record jobs.items)) }
     ensures lines { IfOk result (λ text. length jobs.items ≡ block_jobs
         → string_bytes text ≡ jobs_text (head_record head.now).clock (map job_record jobs.items)) }
-    ensures last { IfOk result (λ text. length jobs.items < block_jobs
-        → string_bytes text ≡ with_total
+    ensures last { IfOk result (λ t. length jobs.items < block_jobs → string_bytes t ≡ with_total
         (jobs_text (head_record head.now).clock (map job_record jobs.items)) polls.new) }
 {
     let is_last = jobs.len() < BLOCK;
@@ -225,9 +218,8 @@ pub(crate) fn write_block<W: Drain>(
     ensures written { OnOk result
         (Appends (W.contents writer.old) (W.contents writer.new) text.now) }
     ensures flushed { OnOk result (W.flushed writer.new ≡ true) }
-    ensures err { IfErr result (λ fault. (sent : ℕ)
-        × (fault ≡ PopulationFault.Write (before + sent)) × (sent ≤ length text.now)
-        × Appends (W.contents writer.old) (W.contents writer.new) (take sent text.now)) }
+    ensures err { IfErr result (SentPart before text.now
+        (W.contents writer.old) (W.contents writer.new)) }
     ensures marks { W.mark writer.new ≡ is_err result }
 {
     match write_all(writer, text.as_bytes()) {

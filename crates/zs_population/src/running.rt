@@ -1,10 +1,7 @@
 //! The run of a population, from its lines to the bytes of its report.
-ghost use Rattle.std.specs.Prelude.{◌≡◌, ◌∷◌, [], ℕ, List, Option, Ok, false};
-ghost use Rattle.std.specs.Io.KnownBytes.{prepend_known};
-ghost use Rattle.zs_run.specs.Head.{head_of};
-ghost use Rattle.zs_run.specs.HeadView.{head_record};
-ghost use Rattle.zs_lines.specs.Buffers.{Took};
-ghost use Rattle.zs_population.specs.Ending.{Ends};
+ghost use Rattle.std.specs.Prelude.{◌≡◌, false};
+ghost use Rattle.zs_lines.specs.Streams.{ByWriter, reading, with_buffer};
+ghost use Rattle.zs_population.specs.Ending.{BlocksEnd, Ends};
 
 use crate::block::{BLOCK, read_block, read_first, run_block, write_block};
 use crate::fault::PopulationFault;
@@ -28,18 +25,8 @@ fn run_blocks<T: Threads + Wait + Sync, G: Gate, R: Source, W: Drain>(
 ) -> Result<(), PopulationFault>
     requires reader_clear { R.mark reader.old ≡ false }
     requires writer_clear { W.mark writer.old ≡ false }
-    ensures ends { (before : Option (List ℕ)) (first : List ℕ)
-        → Took before (prepend_known buffer.old (R.remaining reader.old)) (first ∷ [])
-        → head_of first ≡ Ok (head_record head.now)
-        → Ends result
-        (record { before = before; left = R.remaining reader.new; failed = R.mark reader.new })
-        (record {
-          before = W.contents writer.old;
-          taken = W.contents writer.new;
-          failed = W.mark writer.new;
-          flushed = W.flushed writer.new;
-        })
-        (writer.new ≡ writer.old) }
+    ensures ends { ByWriter W.contents W.mark W.flushed writer.old writer.new (BlocksEnd result
+        head.now (with_buffer buffer.old (reading R.remaining R.mark reader.old reader.new))) }
 {
     let mut names = BTreeSet::new(alloc);
     let mut polls = 0;
@@ -76,19 +63,8 @@ pub fn run_population<T: Threads + Wait + Sync, G: Gate, R: Source, W: Drain>(
     requires writer_clear { W.mark writer.old ≡ false }
 
     // Success and each fault, by the reader, the writer, and whether the writer is unchanged.
-    ensures ends { Ends result
-        (record {
-          before = R.remaining reader.old;
-          left = R.remaining reader.new;
-          failed = R.mark reader.new;
-        })
-        (record {
-          before = W.contents writer.old;
-          taken = W.contents writer.new;
-          failed = W.mark writer.new;
-          flushed = W.flushed writer.new;
-        })
-        (writer.new ≡ writer.old) }
+    ensures ends { ByWriter W.contents W.mark W.flushed writer.old writer.new
+        (Ends result (reading R.remaining R.mark reader.old reader.new)) }
 {
     let mut buffer = Buffer::new(alloc);
     let head = read_first(alloc, reader, &mut buffer)?;

@@ -28,6 +28,7 @@ pub returns-then-not-branch-clause-line : goal.returns-then-not-branch-clause-li
 returns-then-not-branch-clause-line g c =
     let w = c.in-Ok-false.ensures.open (ap Ok c.in-Ok-false.field-0-test) in
     let none = c.in_ok-fill.ensures.none (search rules) in
+    let end = c.in_ok-fill.ensures.end (search rules) in
     let old : Option (List ℕ) = prepend_known c.args.self.now (g.R.Source.remaining c.args.reader.now) in
     let mid : Option (List ℕ) = g.R.Source.remaining c.loop-line.reader in
     let left : Option (List ℕ) = g.R.Source.remaining c.fill.new.reader in
@@ -35,8 +36,8 @@ returns-then-not-branch-clause-line g c =
     let read : Consumes old mid (before ++ c.loop-line.self) = opened old mid before c.loop-line.self c.loop-line.invariant.3 in
     let count : vec_len c.take_piece.new.line ≡ length c.take_piece.new.line.items = omega (arith, c.take_piece.new.line.ok.0) in
     let empty : c.is_empty.result ≡ (length (before ++ c.loop-line.self) == 0) = rw w.1 at (c.is_empty.ensures ∙ ap (λ n. n == 0) count) in
-    rw (none.0, w.1) (ended c.args.limit old mid left (before ++ c.loop-line.self) c.is_empty.result empty
-    (one_line-append before c.loop-line.self c.loop-line.invariant.1 w.0) read none.1 none.2)
+    rw (none, w.1) (ended c.args.limit old mid left (before ++ c.loop-line.self) c.is_empty.result empty
+    (one_line-append before c.loop-line.self c.loop-line.invariant.1 w.0) read end.1 end.0)
 
 -- more bytes were read
 pub loop-line-preserved : goal.loop-line-preserved
