@@ -12,17 +12,17 @@ use std::alloc::{AllocError, Global};
 use zs_term::Test;
 
 // A range of outputs, and decisions.
-pub(crate) type Answer = (OutRange, Decisions);
+pub(crate) type AnswerRange = (OutRange, Decisions);
 
 // No result.
-pub(crate) fn no_answer() -> Answer
+pub(crate) fn no_answer() -> AnswerRange
     ensures value { answer_range result ≡ no_answer }
 {
     (OutRange::Nothing, Decisions::nothing())
 }
 
 // The results of one or the other.
-pub(crate) fn answer_hull(first: Answer, second: Answer) -> Answer
+pub(crate) fn answer_hull(first: AnswerRange, second: AnswerRange) -> AnswerRange
     ensures value { answer_range result ≡ answer_hull (answer_range first) (answer_range second) }
 {
     let (mut x, d) = first;
@@ -32,7 +32,7 @@ pub(crate) fn answer_hull(first: Answer, second: Answer) -> Answer
 }
 
 // The results of a first part that goes on.
-pub(crate) fn left_range(alloc: Global, answer: Answer) -> Result<Answer, AllocError>
+pub(crate) fn left_range(alloc: Global, answer: AnswerRange) -> Result<AnswerRange, AllocError>
     ensures value { IfOk result (λ r. answer_range r ≡ left_range (answer_range answer)) }
 {
     let (out, decision) = answer;
@@ -46,7 +46,7 @@ pub(crate) fn left_range(alloc: Global, answer: Answer) -> Result<Answer, AllocE
 }
 
 // The results of a second part.
-pub(crate) fn right_range(alloc: Global, answer: Answer) -> Result<Answer, AllocError>
+pub(crate) fn right_range(alloc: Global, answer: AnswerRange) -> Result<AnswerRange, AllocError>
     ensures value { IfOk result (λ r. answer_range r ≡ right_range (answer_range answer)) }
 {
     let (out, decision) = answer;
@@ -54,7 +54,7 @@ pub(crate) fn right_range(alloc: Global, answer: Answer) -> Result<Answer, Alloc
 }
 
 // The results under a test of a number of a span, if there is one.
-pub(crate) fn test_range(test: Test, span: Option<Span>, answer: Answer) -> Answer
+pub(crate) fn test_range(test: Test, span: Option<Span>, answer: AnswerRange) -> AnswerRange
     ensures value { answer_range result ≡ test_range test span (answer_range answer) }
 {
     let (out, decision) = answer;

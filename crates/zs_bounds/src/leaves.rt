@@ -9,7 +9,7 @@ ghost use Rattle.zs_bounds.specs.AnswerRange.{leaf_range, waiting, period_waits,
 ghost use Rattle.zs_bounds.specs.OutRange.{answer_range};
 ghost use Rattle.zs_bounds.specs.Leaf.{bare_leaf};
 
-use crate::answers::Answer;
+use crate::answers::AnswerRange;
 use crate::decisions::Decisions;
 use crate::ranges::OutRange;
 use crate::span::{Span, UNCUT_WAIT};
@@ -37,7 +37,7 @@ fn at_once() -> Option<Span>
 }
 
 // The results of a leaf, by its number of steps with this one, and the time since the first one.
-pub(crate) fn leaf_range(leaf: Leaf, steps: Span, time: Span) -> Answer
+pub(crate) fn leaf_range(leaf: Leaf, steps: Span, time: Span) -> AnswerRange
     ensures value { answer_range result ≡ leaf_range (bare_leaf leaf) steps time }
 {
     let earlier = steps.earlier();
@@ -78,7 +78,7 @@ fn recurring(k: u64, earlier: Span) -> Decisions
 }
 
 // Results whose output is their delay.
-fn waiting(delays: Span) -> Answer
+fn waiting(delays: Span) -> AnswerRange
     ensures value { answer_range result ≡ waiting delays }
 {
     (

@@ -7,7 +7,7 @@ ghost use Rattle.zs_bounds.specs.StateRange.{first_state, more_items};
 ghost use Rattle.zs_bounds.specs.Leaf.{bare_leaf};
 ghost use Rattle.zs_bounds.specs.Node.{node_begun, node_schedule, node_state, fresh_state, in_turn, IsMade, IsMadeNode, KnowsFirsts, SameNode};
 
-use crate::answers::{Answer, answer_hull, left_range, no_answer, right_range, test_range};
+use crate::answers::{AnswerRange, answer_hull, left_range, no_answer, right_range, test_range};
 use crate::decisions::Decisions;
 use crate::leaves::{Leaf, leaf_range};
 use crate::ranges::{OutRange, func_range, make_pairs, picked_span};
@@ -42,10 +42,10 @@ pub(crate) fn any_input() -> Option<Span>
 }
 
 // A node after its first step, and what that step may return.
-pub(crate) type Made = (Node, Answer);
+pub(crate) type Made = (Node, AnswerRange);
 
 // A part of a node, in separate memory, and what its first step may return.
-type MadePart = (Box<Node>, Answer);
+type MadePart = (Box<Node>, AnswerRange);
 
 // The node of a term after its first step, and what that step may return.
 #[cycle(making)]

@@ -27,11 +27,11 @@ pub(crate) struct Next {
 }
 
 // What a step may decide.
-type Stepped = Result<Decisions, AllocError>;
+type StepResult = Result<Decisions, AllocError>;
 
 // One step, in place: what it may decide. What is read of its output is put into `out`.
 #[cycle(stepping)]
-pub(crate) fn step(next: Next, reads: &Reads<'_>, node: &mut Node, out: &mut OutRange) -> Stepped
+pub(crate) fn step(next: Next, reads: &Reads<'_>, node: &mut Node, out: &mut OutRange) -> StepResult
     requires firsts { KnowsFirsts node.old }
     ensures gives { IfOk result (Gives reads.now (node_range node.old next.later) out.new) }
     ensures moves { OnOk result (Moves node.old node.new next.later) }
@@ -112,7 +112,7 @@ fn step_while_output(
     pick: Pick,
     test: Test,
     out: &mut OutRange,
-) -> Stepped
+) -> StepResult
     requires firsts { KnowsFirsts part.old }
     ensures gives { IfOk result
         (Gives reads.now (over_range (while_output pick test) part.old next.later) out.new) }
@@ -133,7 +133,7 @@ fn step_collect_all(
     part: &mut Node,
     count: &mut Span,
     out: &mut OutRange,
-) -> Stepped
+) -> StepResult
     requires firsts { KnowsFirsts part.old }
     ensures gives { IfOk result
         (Gives reads.now (items_range count.old part.old next.later) out.new) }
@@ -157,7 +157,7 @@ fn step_map(
     part: &mut Node,
     func: Func,
     out: &mut OutRange,
-) -> Stepped
+) -> StepResult
     requires firsts { KnowsFirsts part.old }
     ensures gives { IfOk result
         (Gives reads.now (over_range (mapped func) part.old next.later) out.new) }
@@ -184,7 +184,7 @@ fn step_reset_when(
     rule: ResetRule,
     first: (&OutRange, Decisions),
     out: &mut OutRange,
-) -> Stepped
+) -> StepResult
     requires firsts { KnowsFirsts part.old }
     requires first { KnowsFirst first.0.now first.1 part.old }
     ensures gives { IfOk result
@@ -214,7 +214,7 @@ fn step_and_then(
     first: &mut Node,
     second: &mut Node,
     out: &mut OutRange,
-) -> Stepped
+) -> StepResult
     requires firsts { KnowsTurns turns.old first.old second.old }
     ensures gives { IfOk result
         (Gives reads.now (turns_range turns.old first.old second.old next.later) out.new) }
@@ -245,7 +245,7 @@ fn step_merged(
     first: &mut Node,
     second: &mut Node,
     out: &mut OutRange,
-) -> Stepped
+) -> StepResult
     requires firsts { KnowsTurns turns.old first.old second.old }
     ensures gives { IfOk result
         (Gives reads.now (merged_range turns.old first.old second.old next.later) out.new) }
@@ -268,7 +268,7 @@ fn step_turns(
     first: &mut Node,
     second: &mut Node,
     out: &mut OutRange,
-) -> Stepped
+) -> StepResult
     requires firsts { KnowsTurns turns.old first.old second.old }
     ensures left { OnOk result
         (IsLeft reads.now (turns_range turns.old first.old second.old next.later) out.new) }
@@ -327,7 +327,7 @@ fn step_second(
     turn: &mut Turn,
     part: &mut Node,
     out: &mut OutRange,
-) -> Stepped
+) -> StepResult
     requires firsts { KnowsFirsts part.old }
     ensures gives { IfOk result
         (Gives reads.now (second_turn_range turn.old part.old next.later) out.new) }

@@ -18,7 +18,7 @@ use Rattle.zs_step.proofs.OutputKinds.{answer_of-has_kind}
 use Rattle.zs_c.specs.Words.{leaf_code, leaf_words}
 use Rattle.zs_c.specs.Code.{leaf_held}
 use Rattle.zs_c.specs.Leaves.{word_at, rule_at, if_begun, past_in, loaded, first_in, rest_stored, stored}
-use Rattle.zs_c.specs.Node.{node_at, IsNode}
+use Rattle.zs_c.specs.Form.{node_at, IsNode}
 use Rattle.zs_c.proofs.Pieces.{drop-whole, append-nothing}
 
 -- an output of the kind of numbers is a number

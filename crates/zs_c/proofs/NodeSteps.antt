@@ -13,10 +13,10 @@ use Rattle.zs_step.specs.declared.leaf.Leaf.{Leaf as LeafState}
 use Rattle.zs_step.specs.LeafState.{state_leaf}
 use Rattle.zs_step.specs.Answer.{answer_of, leaf_answer, since_reset, later_of, earlier_of, only_if}
 use Rattle.zs_c.specs.declared.program.node.Sizes.{Sizes}
-use Rattle.zs_c.specs.declared.program.node.Node.{Node}
-use Rattle.zs_c.specs.declared.program.node.Node.TheVariants.{Leaf, Both, Either, AndThen, WhileInput, WhileOutput, Map, ResetWhen}
+use Rattle.zs_c.specs.declared.program.node.Form.{Form}
+use Rattle.zs_c.specs.declared.program.node.Form.TheVariants.{Leaf, Both, Either, AndThen, WhileInput, WhileOutput, Map, ResetWhen}
 use Rattle.zs_c.specs.Code.{IsCode, held_of, held_size, leaf_held}
-use Rattle.zs_c.specs.Node.{node_at, sizes_of, IsNode, IsParts}
+use Rattle.zs_c.specs.Form.{node_at, sizes_of, IsNode, IsParts}
 use Rattle.zs_c.specs.Leaves.{new_leaf}
 use Rattle.zs_c.specs.Steps.{StepsCode, StepsBoth, StepsThen}
 use Rattle.zs_c.specs.View.{Tells}
@@ -25,7 +25,7 @@ use Rattle.zs_c.proofs.Nodes.{read-node}
 use Rattle.zs_c.proofs.StepLemmas.{both-steps, either-steps, then-steps, while_input-steps, while_output-steps, mapped-steps, reset-stays, reset-begins, reset-room}
 
 -- a code that is read as a node is that of a schedule with this node at its root
-pub coded-node : (t : Schedule) (code : List ℕ) (levels : ℕ) (n m : Node) → IsCode t code levels → n ≡ node_at code → n ≡ m → IsNode m t
+pub coded-node : (t : Schedule) (code : List ℕ) (levels : ℕ) (n m : Form) → IsCode t code levels → n ≡ node_at code → n ≡ m → IsNode m t
 coded-node t code levels n m coded read is = subst (λ x. IsNode x t) is (read-node t code n read coded.is coded.flat)
 
 -- the same code at another place
@@ -55,7 +55,7 @@ pub both-size : (a b : Schedule) (old : List ℕ) → length old ≡ length (hel
 both-size a b old sized = sized ∙ length-append (held_of a []) (held_of b [])
 
 -- the parts of a code that is read as `&&` or `||`
-pub together-clears : (t : Schedule) (code old new : List ℕ) (levels : ℕ) (n : Node) (s : Sizes) → IsCode t code levels → n ≡ node_at code → (n ≡ Both s) ⊎ (n ≡ Either s) →
+pub together-clears : (t : Schedule) (code old new : List ℕ) (levels : ℕ) (n : Form) (s : Sizes) → IsCode t code levels → n ≡ node_at code → (n ≡ Both s) ⊎ (n ≡ Either s) →
     ((a b : Schedule) → IsParts a b s code (levels - 1) → length old ≡ held_size a + held_size b → new ≡ held_of a [] ++ held_of b []) → Clears t old new
 together-clears t code old new levels n s coded read is parts =
     elim is [
@@ -71,7 +71,7 @@ together-clears t code old new levels n s coded read is parts =
 then-size : (a b : Schedule) (n : ℕ) → n ≡ suc (length (held_of a [] ++ held_of b [])) → n ≡ suc (held_size a + held_size b)
 then-size a b n sized = omega (arith, sized, length-append (held_of a []) (held_of b []))
 
-pub then-clears : (t : Schedule) (code old new rest : List ℕ) (levels : ℕ) (n : Node) (s : Sizes) → IsCode t code levels → n ≡ node_at code → n ≡ AndThen s →
+pub then-clears : (t : Schedule) (code old new rest : List ℕ) (levels : ℕ) (n : Form) (s : Sizes) → IsCode t code levels → n ≡ node_at code → n ≡ AndThen s →
     ((a b : Schedule) → IsParts a b s code (levels - 1) → length old ≡ suc (held_size a + held_size b) → rest ≡ held_of a [] ++ held_of b []) →
     (1 ≤ length old → new ≡ 0 ∷ rest) → Clears t old new
 then-clears t code old new rest levels n s coded read is parts whole =
@@ -82,7 +82,7 @@ then-clears t code old new rest levels n s coded read is parts whole =
     (parts m.0 m.1 (parts-of and_then m.0 m.1 code levels s c m.3) (then-size m.0 m.1 (length old) z)))
 
 -- the part of a code that is read as an operator over it
-pub three-clears : (t : Schedule) (code other old new : List ℕ) (levels : ℕ) (n : Node) → IsCode t code levels → n ≡ node_at code → other ≡ drop 3 code →
+pub three-clears : (t : Schedule) (code other old new : List ℕ) (levels : ℕ) (n : Form) → IsCode t code levels → n ≡ node_at code → other ≡ drop 3 code →
     ((x : Test) × (n ≡ WhileInput x)) ⊎ ((f : Func) × (n ≡ Map f)) → ((s : Schedule) → IsCode s other (levels - 1) → Clears s old new) → Clears t old new
 three-clears t code other old new levels n coded read at is part =
     elim is [
@@ -96,7 +96,7 @@ three-clears t code other old new levels n coded read at is part =
           (part m.0 (code-at m.0 other (drop 3 code) (levels - 1) at (part-code (mapped e.0) m.0 code levels 3 c refl)))
     ]
 
-pub four-clears : (t : Schedule) (code other old new : List ℕ) (levels : ℕ) (n : Node) → IsCode t code levels → n ≡ node_at code → other ≡ drop 4 code →
+pub four-clears : (t : Schedule) (code other old new : List ℕ) (levels : ℕ) (n : Form) → IsCode t code levels → n ≡ node_at code → other ≡ drop 4 code →
     ((k : Pick) × (x : Test) × (n ≡ WhileOutput k x)) ⊎ ((k : Pick) × (x : Test) × (n ≡ ResetWhen k x)) →
     ((s : Schedule) → IsCode s other (levels - 1) → Clears s old new) → Clears t old new
 four-clears t code other old new levels n coded read at is part =
@@ -112,7 +112,7 @@ four-clears t code other old new levels n coded read at is part =
     ]
 
 -- the effect of clearing a leaf
-pub leaf-clears : (t : Schedule) (code old new : List ℕ) (levels : ℕ) (n : Node) (l : LeafState) → IsCode t code levels → n ≡ node_at code → n ≡ Leaf l →
+pub leaf-clears : (t : Schedule) (code old new : List ℕ) (levels : ℕ) (n : Form) (l : LeafState) → IsCode t code levels → n ≡ node_at code → n ≡ Leaf l →
     (l ≡ new_leaf (state_leaf l) → length old ≡ length (leaf_held (state_leaf l) []) → new ≡ leaf_held (state_leaf l) []) → Clears t old new
 leaf-clears t code old new levels n l coded read is clears =
     let m = coded-node t code levels n (Leaf l) coded read is in clears-as t (leaf (state_leaf l)) old new m.0 (clears m.1)
@@ -127,7 +127,7 @@ pub code-heavy : (t : Schedule) (before most : ℕ) → before + weight t ≤ mo
 code-heavy t before most room full = omega (arith, room, full, weight-positive t)
 
 -- a step of a leaf
-pub leaf-node : (t : Schedule) (h : History) (code old new : List ℕ) (levels now input : ℕ) (d : Decision) (before after : ℕ) (n : Node) (l : LeafState) →
+pub leaf-node : (t : Schedule) (h : History) (code old new : List ℕ) (levels now input : ℕ) (d : Decision) (before after : ℕ) (n : Form) (l : LeafState) →
     IsCode t code levels → n ≡ node_at code → n ≡ Leaf l → old ≡ held_of t h →
     ((g : History) → old ≡ leaf_held (state_leaf l) g → new ≡ leaf_held (state_leaf l) ((now, input) ∷ g)) →
     ((g : History) → old ≡ leaf_held (state_leaf l) g → d ≡ (leaf_answer (state_leaf l) ((now, input) ∷ g)).decision) →
@@ -144,7 +144,7 @@ PartsStep s code levels most old new now input x y before after =
     StepsBoth a b g new now input x y before after
 
 -- a step of `&&`
-pub both-node : (t : Schedule) (h : History) (code old new : List ℕ) (levels now input : ℕ) (x y d : Decision) (before after most : ℕ) (n : Node) (s : Sizes) →
+pub both-node : (t : Schedule) (h : History) (code old new : List ℕ) (levels now input : ℕ) (x y d : Decision) (before after most : ℕ) (n : Form) (s : Sizes) →
     IsCode t code levels → n ≡ node_at code → n ≡ Both s → before + weight t ≤ most → old ≡ held_of t h →
     PartsStep s code (levels - 1) most old new now input x y (before + 1) after → d ≡ later_of x y → StepsCode t h new now input d before after
 both-node t h code old new levels now input x y d before after most n s coded read is room held parts later =
@@ -156,7 +156,7 @@ both-node t h code old new levels now input x y d before after most n s coded re
     (parts m.0 m.1 h (parts-of both m.0 m.1 code levels s c m.3) (omega (arith, fits)) (held ∙ ap (λ z. held_of z h) m.2)) later)
 
 -- a step of `||`
-pub either-node : (t : Schedule) (h : History) (code old new : List ℕ) (levels now input : ℕ) (x y d : Decision) (before after most : ℕ) (n : Node) (s : Sizes) →
+pub either-node : (t : Schedule) (h : History) (code old new : List ℕ) (levels now input : ℕ) (x y d : Decision) (before after most : ℕ) (n : Form) (s : Sizes) →
     IsCode t code levels → n ≡ node_at code → n ≡ Either s → before + weight t ≤ most → old ≡ held_of t h →
     PartsStep s code (levels - 1) most old new now input x y (before + 1) after → d ≡ earlier_of x y → StepsCode t h new now input d before after
 either-node t h code old new levels now input x y d before after most n s coded read is room held parts earlier =
@@ -168,7 +168,7 @@ either-node t h code old new levels now input x y d before after most n s coded 
     (parts m.0 m.1 h (parts-of either m.0 m.1 code levels s c m.3) (omega (arith, fits)) (held ∙ ap (λ z. held_of z h) m.2)) earlier)
 
 -- a step of `andThenEither`
-pub then-node : (t : Schedule) (h : History) (code old new : List ℕ) (levels now input : ℕ) (d : Decision) (before after most : ℕ) (n : Node) (s : Sizes) →
+pub then-node : (t : Schedule) (h : History) (code old new : List ℕ) (levels now input : ℕ) (d : Decision) (before after most : ℕ) (n : Form) (s : Sizes) →
     IsCode t code levels → n ≡ node_at code → n ≡ AndThen s → before + weight t ≤ most → old ≡ held_of t h →
     ((a b : Schedule) (g : History) → IsParts a b s code (levels - 1) → before + 1 + weight a + weight b ≤ most → old ≡ held_of (two and_then a b) g →
     StepsThen a b g new now input d (before + 1) after) → StepsCode t h new now input d before after
@@ -186,7 +186,7 @@ PartSteps code levels most old new now input d before after =
     (s : Schedule) (g : History) → IsCode s code levels → before + weight s ≤ most → old ≡ held_of s g → StepsCode s g new now input d before after
 
 -- a step of `.whileInput`
-pub while_input-node : (t : Schedule) (h : History) (code other old new : List ℕ) (levels now input : ℕ) (x d : Decision) (before after most : ℕ) (n : Node) (q : Test) (passed : Bool) →
+pub while_input-node : (t : Schedule) (h : History) (code other old new : List ℕ) (levels now input : ℕ) (x d : Decision) (before after most : ℕ) (n : Form) (q : Test) (passed : Bool) →
     IsCode t code levels → n ≡ node_at code → n ≡ WhileInput q → other ≡ drop 3 code → before + weight t ≤ most → old ≡ held_of t h →
     PartSteps other (levels - 1) most old new now input x (before + 1) after → passed ≡ passes q input → d ≡ only_if passed x →
     StepsCode t h new now input d before after
@@ -200,7 +200,7 @@ while_input-node t h code other old new levels now input x d before after most n
     (while_input-steps m.0 q h new now input x d before after p (kept ∙ ap (λ (z : Bool). only_if z x) tested))
 
 -- a step of `.map`
-pub mapped-node : (t : Schedule) (h : History) (code other old new : List ℕ) (levels now input : ℕ) (d : Decision) (before after most : ℕ) (n : Node) (f : Func) →
+pub mapped-node : (t : Schedule) (h : History) (code other old new : List ℕ) (levels now input : ℕ) (d : Decision) (before after most : ℕ) (n : Form) (f : Func) →
     IsCode t code levels → n ≡ node_at code → n ≡ Map f → other ≡ drop 3 code → before + weight t ≤ most → old ≡ held_of t h →
     PartSteps other (levels - 1) most old new now input d (before + 1) after → StepsCode t h new now input d before after
 mapped-node t h code other old new levels now input d before after most n f coded read is at room held part =
@@ -216,7 +216,7 @@ abbrev pub IsPassed : Bool → Pick → Test → List ℕ → List ℕ → ℕ �
 IsPassed passed k q code words levels = (o : Output) → Tells code words levels o → passed ≡ passes q (picked k o)
 
 -- a step of `.whileOutput`
-pub while_output-node : (t : Schedule) (h : History) (code other old new : List ℕ) (levels now input : ℕ) (x d : Decision) (before after most : ℕ) (n : Node) (k : Pick) (q : Test) (passed : Bool) →
+pub while_output-node : (t : Schedule) (h : History) (code other old new : List ℕ) (levels now input : ℕ) (x d : Decision) (before after most : ℕ) (n : Form) (k : Pick) (q : Test) (passed : Bool) →
     IsCode t code levels → n ≡ node_at code → n ≡ WhileOutput k q → other ≡ drop 4 code → before + weight t ≤ most → old ≡ held_of t h →
     PartSteps other (levels - 1) most old new now input x (before + 1) after → IsPassed passed k q other new (levels - 1) → d ≡ only_if passed x →
     StepsCode t h new now input d before after
@@ -232,7 +232,7 @@ while_output-node t h code other old new levels now input x d before after most 
     (while_output-steps m.0 k q h new now input x d before after p (kept ∙ ap (λ (z : Bool). only_if z x) passes_so))
 
 -- a step of `.resetWhen` that doesn't reset
-pub reset-stays-node : (t : Schedule) (h : History) (code other old new : List ℕ) (levels now input : ℕ) (d : Decision) (before after most : ℕ) (n : Node) (k : Pick) (q : Test) (passed : Bool) →
+pub reset-stays-node : (t : Schedule) (h : History) (code other old new : List ℕ) (levels now input : ℕ) (d : Decision) (before after most : ℕ) (n : Form) (k : Pick) (q : Test) (passed : Bool) →
     IsCode t code levels → n ≡ node_at code → n ≡ ResetWhen k q → other ≡ drop 4 code → before + weight t ≤ most → old ≡ held_of t h →
     PartSteps other (levels - 1) most old new now input d (before + 1) after → IsPassed passed k q other new (levels - 1) → passed ≡ false →
     StepsCode t h new now input d before after
@@ -249,7 +249,7 @@ reset-stays-node t h code other old new levels now input d before after most n k
     (reset-stays m.0 k q h new now input d before after p (sym passes_so ∙ stays))
 
 -- a step of `.resetWhen` that resets
-pub reset-begins-node : (t : Schedule) (h : History) (code other old first mid new : List ℕ) (levels now input : ℕ) (x d : Decision) (before between after most : ℕ) (n : Node) (k : Pick) (q : Test) (passed : Bool) →
+pub reset-begins-node : (t : Schedule) (h : History) (code other old first mid new : List ℕ) (levels now input : ℕ) (x d : Decision) (before between after most : ℕ) (n : Form) (k : Pick) (q : Test) (passed : Bool) →
     IsCode t code levels → n ≡ node_at code → n ≡ ResetWhen k q → other ≡ drop 4 code → before + weight t ≤ most → old ≡ held_of t h →
     PartSteps other (levels - 1) most old first now input x (before + 1) between → IsPassed passed k q other first (levels - 1) → passed ≡ true →
     ((s : Schedule) → IsCode s other (levels - 1) → Clears s first mid) → PartSteps other (levels - 1) most mid new now input d between after →

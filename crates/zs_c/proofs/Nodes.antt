@@ -9,9 +9,9 @@ use Rattle.zs_term.specs.declared.term.Pick.TheVariants.{Whole, First as PickFir
 use Rattle.zs_term.specs.declared.term.Func.{Func}
 use Rattle.zs_term.specs.declared.term.Func.TheVariants.{First, Second, Size, Merge, Const, Add, Mul}
 use Rattle.zs_step.specs.Memory.{keeps_no_list}
-use Rattle.zs_c.specs.declared.program.node.Node.{Node}
+use Rattle.zs_c.specs.declared.program.node.Form.{Form}
 use Rattle.zs_c.specs.Code.{cmp_word, pick_word, func_word, func_number, code_of}
-use Rattle.zs_c.specs.Node.{cmp_of, test_of, pick_of, func_of, node_at, IsNode}
+use Rattle.zs_c.specs.Form.{cmp_of, test_of, pick_of, func_of, node_at, IsNode}
 use Rattle.zs_c.proofs.Leaves.{leaf-node}
 
 -- a comparison
@@ -62,5 +62,5 @@ code-node (over s (reset_when k t)) flat = (s, sym (pick-test-over (λ x y. over
 code-node (over s collect_all) flat = cc
 
 -- the same for words that are a schedule's code
-pub read-node : (t : Schedule) (code : List ℕ) (n : Node) → n ≡ node_at code → code ≡ code_of t → keeps_no_list t ≡ true → IsNode n t
+pub read-node : (t : Schedule) (code : List ℕ) (n : Form) → n ≡ node_at code → code ≡ code_of t → keeps_no_list t ≡ true → IsNode n t
 read-node t code n is coded flat = subst (λ x. IsNode x t) (sym (is ∙ ap node_at coded)) (code-node t flat)

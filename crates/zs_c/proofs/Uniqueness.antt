@@ -4,7 +4,7 @@ use Rattle.std.proofs.Math.Seq.{take-append_seam, drop-append_seam}
 use Rattle.zs_term.specs.Schedule.{Schedule, Pairing, Modifier, leaf, two, over, both, either, and_then, while_input, while_output, collect_all, mapped, reset_when}
 use Rattle.zs_step.specs.Memory.{keeps_no_list}
 use Rattle.zs_c.specs.Code.{code_of, modifier_code}
-use Rattle.zs_c.specs.Node.{node_at, IsNode}
+use Rattle.zs_c.specs.Form.{node_at, IsNode}
 use Rattle.zs_c.specs.Program.{program_of, IsProgram}
 use Rattle.zs_c.proofs.Leaves.{leaf-once}
 use Rattle.zs_c.proofs.Listless.{two-flat}

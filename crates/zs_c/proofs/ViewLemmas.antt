@@ -10,7 +10,7 @@ use Rattle.zs_step.specs.Answer.{answer_of, from_done, since_reset, sequel_of}
 use Rattle.zs_c.specs.declared.program.node.Sizes.{Sizes}
 use Rattle.zs_c.specs.Code.{held_of, held_size, IsCode}
 use Rattle.zs_c.specs.Leaves.{word_at}
-use Rattle.zs_c.specs.Node.{sizes_of}
+use Rattle.zs_c.specs.Form.{sizes_of}
 use Rattle.zs_c.specs.View.{Tells}
 use Rattle.zs_c.proofs.Codes.{first-code, second-code, part-code}
 use Rattle.zs_c.proofs.StepLemmas.{first-held, second-held, first-is-on, second-is-on}

@@ -10,12 +10,12 @@ use Rattle.zs_step.specs.declared.leaf.Leaf.{Leaf}
 use Rattle.zs_step.specs.LeafState.{state_leaf}
 use Rattle.zs_step.specs.Answer.{answer_of, leaf_answer}
 use Rattle.zs_c.specs.declared.program.node.Sizes.{Sizes}
-use Rattle.zs_c.specs.declared.program.node.Node.{Node}
-use Rattle.zs_c.specs.declared.program.node.Node.TheVariants.{Leaf as NodeLeaf, Both, Either, AndThen, WhileInput, WhileOutput, Map, ResetWhen}
+use Rattle.zs_c.specs.declared.program.node.Form.{Form}
+use Rattle.zs_c.specs.declared.program.node.Form.TheVariants.{Leaf as NodeLeaf, Both, Either, AndThen, WhileInput, WhileOutput, Map, ResetWhen}
 use Rattle.zs_c.specs.declared.program.outputs.Place.{Place}
 use Rattle.zs_c.specs.declared.program.outputs.View.TheVariants.{Pair, Left, Right}
 use Rattle.zs_c.specs.Code.{IsCode, held_of}
-use Rattle.zs_c.specs.Node.{node_at, IsNode}
+use Rattle.zs_c.specs.Form.{node_at, IsNode}
 use Rattle.zs_c.specs.Leaves.{word_at}
 use Rattle.zs_c.specs.View.{Tells, PlaceTells, Shows}
 use Rattle.zs_c.proofs.Leaves.{leaf-number}
@@ -38,7 +38,7 @@ pub no-levels : (code words : List ℕ) (levels : ℕ) (o : Output) → levels �
 no-levels code words levels o none t = omega (arith, t.coded.deep, none, depth-positive t.term)
 
 -- the node of a code is at the root of the schedule
-pub told-node : (code words : List ℕ) (levels : ℕ) (o : Output) (n m : Node) → n ≡ node_at code → n ≡ m → (t : Tells code words levels o) → IsNode m t.term
+pub told-node : (code words : List ℕ) (levels : ℕ) (o : Output) (n m : Form) → n ≡ node_at code → n ≡ m → (t : Tells code words levels o) → IsNode m t.term
 told-node code words levels o n m read is t = subst (λ x. IsNode x t.term) is (read-node t.term code n read t.coded.is t.coded.flat)
 
 -- the same, for an equal schedule
@@ -48,7 +48,7 @@ told-as code words levels o t u is =
     (subst (λ x. IsCode x code levels) is t.coded, t.held ∙ ap (λ x. held_of x t.history) is, t.output ∙ ap (λ x. (answer_of x t.history).output) is)
 
 -- a leaf's output is its first word
-pub leaf-shows : (l : Leaf) (code words : List ℕ) (levels w : ℕ) (o : Output) (n : Node) → n ≡ node_at code → n ≡ NodeLeaf l → w ≡ word_at words 0 →
+pub leaf-shows : (l : Leaf) (code words : List ℕ) (levels w : ℕ) (o : Output) (n : Form) → n ≡ node_at code → n ≡ NodeLeaf l → w ≡ word_at words 0 →
     Tells code words levels o → o ≡ number w
 leaf-shows l code words levels w o n read is first t =
     let u = told-as code words levels o t (leaf (state_leaf l)) (told-node code words levels o n (NodeLeaf l) read is t).0 in
@@ -73,7 +73,7 @@ parts-told s p a b x y are t = (
 )
 
 -- the parts of `&&`
-both-shows : (s : Sizes) (p a b : Place) (o : Output) (n : Node) → n ≡ node_at p.code.now → n ≡ Both s → ArePartsOf s p a b 0 → PlaceTells p o → Shows (Pair a b) o
+both-shows : (s : Sizes) (p a b : Place) (o : Output) (n : Form) → n ≡ node_at p.code.now → n ≡ Both s → ArePartsOf s p a b 0 → PlaceTells p o → Shows (Pair a b) o
 both-shows s p a b o n read is are t =
     let node = told-node p.code.now p.words.now p.levels o n (Both s) read is t in
     let u = told-as p.code.now p.words.now p.levels o t (two both node.0 node.1) node.2 in
@@ -84,7 +84,7 @@ both-shows s p a b o n read is are t =
     (x, y, w.0, told.0, told.1)
 
 -- the parts of `||`
-either-shows : (s : Sizes) (p a b : Place) (o : Output) (n : Node) → n ≡ node_at p.code.now → n ≡ Either s → ArePartsOf s p a b 0 → PlaceTells p o → Shows (Pair a b) o
+either-shows : (s : Sizes) (p a b : Place) (o : Output) (n : Form) → n ≡ node_at p.code.now → n ≡ Either s → ArePartsOf s p a b 0 → PlaceTells p o → Shows (Pair a b) o
 either-shows s p a b o n read is are t =
     let node = told-node p.code.now p.words.now p.levels o n (Either s) read is t in
     let u = told-as p.code.now p.words.now p.levels o t (two either node.0 node.1) node.2 in
@@ -95,14 +95,14 @@ either-shows s p a b o n read is are t =
     (x, y, w.0, told.0, told.1)
 
 -- the parts of an operator that steps both
-pub pair-shows : (s : Sizes) (p a b : Place) (o : Output) (n : Node) → n ≡ node_at p.code.now → (n ≡ Both s) ⊎ (n ≡ Either s) → ArePartsOf s p a b 0 → PlaceTells p o → Shows (Pair a b) o
+pub pair-shows : (s : Sizes) (p a b : Place) (o : Output) (n : Form) → n ≡ node_at p.code.now → (n ≡ Both s) ⊎ (n ≡ Either s) → ArePartsOf s p a b 0 → PlaceTells p o → Shows (Pair a b) o
 pair-shows s p a b o n read is are t = elim is [
   | inl w ↦ both-shows s p a b o n read w are t
   | inr w ↦ either-shows s p a b o n read w are t
 ]
 
 -- the first part of `andThenEither`, while it is active
-pub left-shows : (s : Sizes) (p a b : Place) (o : Output) (n : Node) → n ≡ node_at p.code.now → n ≡ AndThen s → ArePartsOf s p a b 1 → word_at p.words.now 0 ≡ 0 →
+pub left-shows : (s : Sizes) (p a b : Place) (o : Output) (n : Form) → n ≡ node_at p.code.now → n ≡ AndThen s → ArePartsOf s p a b 1 → word_at p.words.now 0 ≡ 0 →
     PlaceTells p o → Shows (Left a) o
 left-shows s p a b o n read is are zeroed t =
     let node = told-node p.code.now p.words.now p.levels o n (AndThen s) read is t in
@@ -116,7 +116,7 @@ left-shows s p a b o n read is are zeroed t =
     )
 
 -- and the second from then on
-pub right-shows : (s : Sizes) (p a b : Place) (o : Output) (n : Node) → n ≡ node_at p.code.now → n ≡ AndThen s → ArePartsOf s p a b 1 → (word_at p.words.now 0 ≡ 0 → ⊥) →
+pub right-shows : (s : Sizes) (p a b : Place) (o : Output) (n : Form) → n ≡ node_at p.code.now → n ≡ AndThen s → ArePartsOf s p a b 1 → (word_at p.words.now 0 ≡ 0 → ⊥) →
     PlaceTells p o → Shows (Right b) o
 right-shows s p a b o n read is are other t =
     let node = told-node p.code.now p.words.now p.levels o n (AndThen s) read is t in
@@ -135,21 +135,21 @@ pub record IsPartOf (p a : Place) (at : ℕ) : Type 0 where
   pub levels : a.levels ≡ p.levels - 1
 
 -- the part of an operator that returns its part's output
-pub while_input-part : (x : Test) (p a : Place) (o : Output) (n : Node) → n ≡ node_at p.code.now → n ≡ WhileInput x → IsPartOf p a 3 → PlaceTells p o → PlaceTells a o
+pub while_input-part : (x : Test) (p a : Place) (o : Output) (n : Form) → n ≡ node_at p.code.now → n ≡ WhileInput x → IsPartOf p a 3 → PlaceTells p o → PlaceTells a o
 while_input-part x p a o n read is part t =
     let node = told-node p.code.now p.words.now p.levels o n (WhileInput x) read is t in
     let u = told-as p.code.now p.words.now p.levels o t (over node.0 (while_input x)) node.1 in
     tells-at a.code.now (drop 3 p.code.now) a.words.now p.words.now a.levels (p.levels - 1) o part.code part.words part.levels
     (while_input-tells node.0 x t.history p.code.now p.words.now p.levels o u.0 u.1 u.2)
 
-pub while_output-part : (k : Pick) (x : Test) (p a : Place) (o : Output) (n : Node) → n ≡ node_at p.code.now → n ≡ WhileOutput k x → IsPartOf p a 4 → PlaceTells p o → PlaceTells a o
+pub while_output-part : (k : Pick) (x : Test) (p a : Place) (o : Output) (n : Form) → n ≡ node_at p.code.now → n ≡ WhileOutput k x → IsPartOf p a 4 → PlaceTells p o → PlaceTells a o
 while_output-part k x p a o n read is part t =
     let node = told-node p.code.now p.words.now p.levels o n (WhileOutput k x) read is t in
     let u = told-as p.code.now p.words.now p.levels o t (over node.0 (while_output k x)) node.1 in
     tells-at a.code.now (drop 4 p.code.now) a.words.now p.words.now a.levels (p.levels - 1) o part.code part.words part.levels
     (while_output-tells node.0 k x t.history p.code.now p.words.now p.levels o u.0 u.1 u.2)
 
-pub reset_when-part : (k : Pick) (x : Test) (p a : Place) (o : Output) (n : Node) → n ≡ node_at p.code.now → n ≡ ResetWhen k x → IsPartOf p a 4 → PlaceTells p o → PlaceTells a o
+pub reset_when-part : (k : Pick) (x : Test) (p a : Place) (o : Output) (n : Form) → n ≡ node_at p.code.now → n ≡ ResetWhen k x → IsPartOf p a 4 → PlaceTells p o → PlaceTells a o
 reset_when-part k x p a o n read is part t =
     let node = told-node p.code.now p.words.now p.levels o n (ResetWhen k x) read is t in
     let u = told-as p.code.now p.words.now p.levels o t (over node.0 (reset_when k x)) node.1 in
@@ -157,7 +157,7 @@ reset_when-part k x p a o n read is part t =
     (reset_when-tells node.0 k x t.history p.code.now p.words.now p.levels o u.0 u.1 u.2)
 
 -- the part of `.map`, and the function of its output
-pub mapped-part : (f : Func) (p a : Place) (o : Output) (n : Node) → n ≡ node_at p.code.now → n ≡ Map f → IsPartOf p a 3 → PlaceTells p o →
+pub mapped-part : (f : Func) (p a : Place) (o : Output) (n : Form) → n ≡ node_at p.code.now → n ≡ Map f → IsPartOf p a 3 → PlaceTells p o →
     (x : Output) × (o ≡ applied f x) × PlaceTells a x
 mapped-part f p a o n read is part t =
     let node = told-node p.code.now p.words.now p.levels o n (Map f) read is t in

@@ -11,7 +11,7 @@ pub mod Program
 pub mod Programs
 -- Named by private contracts only.
 pub mod Leaves
-pub mod Node
+pub mod Form
 pub mod Opened
 pub mod Rooms
 pub mod Steps

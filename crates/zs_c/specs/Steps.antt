@@ -9,7 +9,7 @@ use Rattle.zs_step.specs.Visits.{visits}
 use Rattle.zs_c.specs.declared.program.leaf.Step.{Step}
 use Rattle.zs_c.specs.declared.program.node.Sizes.{Sizes}
 use Rattle.zs_c.specs.Code.{IsCode, held_of, held_size}
-use Rattle.zs_c.specs.Node.{IsParts}
+use Rattle.zs_c.specs.Form.{IsParts}
 
 -- a step after a history: the new words, the decision, and the visits before and after it
 pub record StepsCode (t : Schedule) (h : History) (words : List ℕ) (now input : ℕ) (d : Decision)

@@ -6,7 +6,7 @@ ghost use Rattle.zs_c.specs.Code.{IsCode, held_of, held_size};
 ghost use Rattle.zs_c.specs.Steps.{ClearsParts};
 
 use crate::program::leaf::clear_leaf;
-use crate::program::node::{Node, Sizes, behind, front, read_node};
+use crate::program::node::{Form, Sizes, behind, front, read_node};
 
 // Resets the words of a code's state to those before any step.
 #[cycle(clearing)]
@@ -18,16 +18,16 @@ pub(crate) fn clear(code: &[u64], words: &mut [u64], levels: u64)
         return;
     }
     match read_node(code) {
-        Node::Leaf(leaf) => clear_leaf(leaf, words),
-        Node::Both(sizes) | Node::Either(sizes) => clear_parts(code, words, sizes, levels - 1),
-        Node::AndThen(sizes) => {
+        Form::Leaf(leaf) => clear_leaf(leaf, words),
+        Form::Both(sizes) | Form::Either(sizes) => clear_parts(code, words, sizes, levels - 1),
+        Form::AndThen(sizes) => {
             if !words.is_empty() {
                 words[0] = 0;
                 clear_parts(code, &mut words[1..], sizes, levels - 1);
             }
         }
-        Node::WhileInput(_) | Node::Map(_) => clear(behind(code, 3), words, levels - 1),
-        Node::WhileOutput(_, _) | Node::ResetWhen(_, _) => {
+        Form::WhileInput(_) | Form::Map(_) => clear(behind(code, 3), words, levels - 1),
+        Form::WhileOutput(_, _) | Form::ResetWhen(_, _) => {
             clear(behind(code, 4), words, levels - 1)
         }
     }

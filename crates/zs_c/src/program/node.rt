@@ -2,7 +2,7 @@
 
 ghost use Rattle.std.specs.Prelude.{◌≡◌, take, drop};
 ghost use Rattle.zs_c.specs.Leaves.{word_at};
-ghost use Rattle.zs_c.specs.Node.{sizes_at, cmp_of, test_of, pick_of, func_of, node_at};
+ghost use Rattle.zs_c.specs.Form.{sizes_at, cmp_of, test_of, pick_of, func_of, node_at};
 
 use crate::program::leaf::read_leaf;
 use zs_step::Leaf;
@@ -17,7 +17,7 @@ pub(crate) struct Sizes {
 
 // A leaf, or an operator without its parts.
 #[derive(Clone, Copy)]
-pub(crate) enum Node {
+pub(crate) enum Form {
     Leaf(Leaf),
     Both(Sizes),
     Either(Sizes),
@@ -30,25 +30,25 @@ pub(crate) enum Node {
 
 // Reads the node at the front of a code. Words that are no code are read as some node.
 #[inline(always)]
-#[tactic(auto, unfolding(crate::specs::Node::node_at))]
-pub(crate) fn read_node(code: &[u64]) -> Node
+#[tactic(auto, unfolding(crate::specs::Form::node_at))]
+pub(crate) fn read_node(code: &[u64]) -> Form
     ensures value { result ≡ node_at code.now }
 {
     match word(code, 0) {
-        11 => Node::Both(read_sizes(code)),
-        12 => Node::Either(read_sizes(code)),
-        13 => Node::AndThen(read_sizes(code)),
-        14 => Node::WhileInput(read_test(word(code, 1), word(code, 2))),
-        15 => Node::WhileOutput(
+        11 => Form::Both(read_sizes(code)),
+        12 => Form::Either(read_sizes(code)),
+        13 => Form::AndThen(read_sizes(code)),
+        14 => Form::WhileInput(read_test(word(code, 1), word(code, 2))),
+        15 => Form::WhileOutput(
             read_pick(word(code, 1)),
             read_test(word(code, 2), word(code, 3)),
         ),
-        16 => Node::Map(read_func(word(code, 1), word(code, 2))),
-        17 => Node::ResetWhen(
+        16 => Form::Map(read_func(word(code, 1), word(code, 2))),
+        17 => Form::ResetWhen(
             read_pick(word(code, 1)),
             read_test(word(code, 2), word(code, 3)),
         ),
-        _ => Node::Leaf(read_leaf(code)),
+        _ => Form::Leaf(read_leaf(code)),
     }
 }
 

@@ -7,7 +7,7 @@ ghost use Rattle.zs_term.specs.OutputText.{output_text};
 ghost use Rattle.zs_c.specs.Rooms.{written_at};
 ghost use Rattle.zs_c.specs.View.{EndsPair, EndsSide, PlaceTells, PutsPair, PutsSide};
 
-use crate::program::node::{Node, read_node, word};
+use crate::program::node::{Form, read_node, word};
 use crate::program::outputs::{Place, View, part, parts, read_view};
 use crate::room::put_behind;
 use itoa::Buffer;
@@ -25,14 +25,14 @@ pub(crate) fn put_output(place: Place<'_>, room: &mut [u8], at: usize) -> usize
         return at;
     }
     match read_node(place.code) {
-        Node::Leaf(_) => put_number(word(place.words, 0), room, at),
-        Node::Both(sizes) | Node::Either(sizes) => {
+        Form::Leaf(_) => put_number(word(place.words, 0), room, at),
+        Form::Both(sizes) | Form::Either(sizes) => {
             let (a, b) = parts(place, sizes, 0);
             put_pair(a, b, room, at)
         }
-        Node::WhileInput(_) => put_output(part(place, 3), room, at),
-        Node::WhileOutput(_, _) | Node::ResetWhen(_, _) => put_output(part(place, 4), room, at),
-        Node::AndThen(_) | Node::Map(_) => match read_view(place) {
+        Form::WhileInput(_) => put_output(part(place, 3), room, at),
+        Form::WhileOutput(_, _) | Form::ResetWhen(_, _) => put_output(part(place, 4), room, at),
+        Form::AndThen(_) | Form::Map(_) => match read_view(place) {
             View::Number(n) => put_number(n, room, at),
             View::Pair(a, b) => put_pair(a, b, room, at),
             View::Left(a) => put_side(b"Left(", a, room, at),

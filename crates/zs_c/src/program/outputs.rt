@@ -4,7 +4,7 @@ ghost use Rattle.std.specs.Prelude.{◌≡◌, ◌-◌, take, drop};
 ghost use Rattle.zs_term.specs.Output.{Output, number_in, picked, applied};
 ghost use Rattle.zs_c.specs.View.{Shows, PlaceTells, IsLower};
 
-use crate::program::node::{Node, Sizes, behind, front, read_node, word};
+use crate::program::node::{Form, Sizes, behind, front, read_node, word};
 use zs_term::{Func, Pick};
 
 // A node's code and the words of its state.
@@ -34,12 +34,12 @@ pub(crate) fn read_view(place: Place<'_>) -> View<'_>
         return View::Number(0);
     }
     match read_node(place.code) {
-        Node::Leaf(_) => View::Number(word(place.words, 0)),
-        Node::Both(sizes) | Node::Either(sizes) => {
+        Form::Leaf(_) => View::Number(word(place.words, 0)),
+        Form::Both(sizes) | Form::Either(sizes) => {
             let (a, b) = parts(place, sizes, 0);
             View::Pair(a, b)
         }
-        Node::AndThen(sizes) => {
+        Form::AndThen(sizes) => {
             let (a, b) = parts(place, sizes, 1);
             if word(place.words, 0) == 0 {
                 View::Left(a)
@@ -47,9 +47,9 @@ pub(crate) fn read_view(place: Place<'_>) -> View<'_>
                 View::Right(b)
             }
         }
-        Node::WhileInput(_) => read_view(part(place, 3)),
-        Node::WhileOutput(_, _) | Node::ResetWhen(_, _) => read_view(part(place, 4)),
-        Node::Map(func) => read_mapped(func, part(place, 3)),
+        Form::WhileInput(_) => read_view(part(place, 3)),
+        Form::WhileOutput(_, _) | Form::ResetWhen(_, _) => read_view(part(place, 4)),
+        Form::Map(func) => read_mapped(func, part(place, 3)),
     }
 }
 

@@ -8,7 +8,7 @@ ghost use Rattle.zs_c.specs.View.{Tells};
 
 use crate::program::clearing::clear;
 use crate::program::leaf::{Step, step_leaf};
-use crate::program::node::{Node, Sizes, behind, front, read_node};
+use crate::program::node::{Form, Sizes, behind, front, read_node};
 use crate::program::outputs::{Place, read_number};
 use zs_step::Decision;
 use zs_term::{MAX_WEIGHT, Pick, Test};
@@ -31,27 +31,27 @@ pub(crate) fn step_code(
     }
     *visits += 1;
     match read_node(code) {
-        Node::Leaf(leaf) => step_leaf(leaf, words, step),
-        Node::Both(sizes) => {
+        Form::Leaf(leaf) => step_leaf(leaf, words, step),
+        Form::Both(sizes) => {
             let (x, y) = step_parts(code, words, sizes, levels - 1, step, visits);
             x.later(y)
         }
-        Node::Either(sizes) => {
+        Form::Either(sizes) => {
             let (x, y) = step_parts(code, words, sizes, levels - 1, step, visits);
             x.earlier(y)
         }
-        Node::AndThen(sizes) => step_and_then(code, words, sizes, levels - 1, step, visits),
-        Node::WhileInput(test) => {
+        Form::AndThen(sizes) => step_and_then(code, words, sizes, levels - 1, step, visits),
+        Form::WhileInput(test) => {
             let decision = step_code(behind(code, 3), words, levels - 1, step, visits);
             decision.only_if(test.passes(step.input))
         }
-        Node::WhileOutput(pick, test) => {
+        Form::WhileOutput(pick, test) => {
             let part = behind(code, 4);
             let decision = step_code(part, words, levels - 1, step, visits);
             decision.only_if(has_passed(part, words, levels - 1, pick, test))
         }
-        Node::Map(_) => step_code(behind(code, 3), words, levels - 1, step, visits),
-        Node::ResetWhen(pick, test) => {
+        Form::Map(_) => step_code(behind(code, 3), words, levels - 1, step, visits),
+        Form::ResetWhen(pick, test) => {
             let part = behind(code, 4);
             let decision = step_code(part, words, levels - 1, step, visits);
             if !has_passed(part, words, levels - 1, pick, test) {

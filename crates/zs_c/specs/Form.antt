@@ -13,10 +13,10 @@ use Rattle.zs_term.specs.declared.term.Func.{Func}
 use Rattle.zs_term.specs.declared.term.Func.TheVariants.{First, Second, Size, Merge, Const, Add}
 use Rattle.zs_term.specs.declared.term.Func.TheVariants.{Mul}
 use Rattle.zs_c.specs.declared.program.node.Sizes.{Sizes}
-use Rattle.zs_c.specs.declared.program.node.Node.{Node}
-use Rattle.zs_c.specs.declared.program.node.Node.TheVariants.{Leaf, Both, Either, AndThen}
-use Rattle.zs_c.specs.declared.program.node.Node.TheVariants.{WhileInput, WhileOutput, Map}
-use Rattle.zs_c.specs.declared.program.node.Node.TheVariants.{ResetWhen}
+use Rattle.zs_c.specs.declared.program.node.Form.{Form}
+use Rattle.zs_c.specs.declared.program.node.Form.TheVariants.{Leaf, Both, Either, AndThen}
+use Rattle.zs_c.specs.declared.program.node.Form.TheVariants.{WhileInput, WhileOutput, Map}
+use Rattle.zs_c.specs.declared.program.node.Form.TheVariants.{ResetWhen}
 use Rattle.zs_step.specs.LeafState.{state_leaf}
 use Rattle.zs_c.specs.Leaves.{word_at, rule_at, new_leaf}
 use Rattle.zs_c.specs.Code.{code_of, held_size, IsCode}
@@ -50,7 +50,7 @@ abbrev pub sizes_at : List ℕ → Sizes
 sizes_at code = record { code = word_at code 1; state = word_at code 2 }
 
 -- the node of a tag and the words after it
-unfoldable pub node_at : List ℕ → Node
+unfoldable pub node_at : List ℕ → Form
 node_at code =
     let w = word_at code 0 in
     if w == 11 then Both (sizes_at code) else (if w == 12 then Either (sizes_at code) else
@@ -68,7 +68,7 @@ abbrev pub sizes_of : Schedule → Sizes
 sizes_of a = record { code = length (code_of a); state = held_size a }
 
 -- a schedule with this node at its root
-abbrev pub IsNode : Node → Schedule → Type 0
+abbrev pub IsNode : Form → Schedule → Type 0
 IsNode (Leaf l) t = (t ≡ leaf (state_leaf l)) × (l ≡ new_leaf (state_leaf l))
 IsNode (Both n) t = (a : Schedule) × (b : Schedule) × (t ≡ two both a b) × (n ≡ sizes_of a)
 IsNode (Either n) t = (a : Schedule) × (b : Schedule) × (t ≡ two either a b) × (n ≡ sizes_of a)
