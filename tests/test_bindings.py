@@ -1,6 +1,6 @@
 """The bindings: one client in each language (tests/clients/) steps the same schedules, fails with the same faults and
-retries by the same policies. What only Python has is in tests/test_python.py. The example of each binding really
-waits."""
+retries by the same policies. What only one binding has is tested by a program in its language
+(tests/clients/only_in_*, OnlyInJava.java; tests/test_python.py). The example of each binding really waits."""
 import pathlib
 import re
 import shutil
@@ -11,8 +11,8 @@ import pytest
 
 import reference
 from histories import FALLS, KEEPS_LIST, History, histories, judge
-from languages import (BINDINGS, CLEAN, JNA, LANGUAGES, STRICT, WATCHED, are_kept, built_library, client, go_variables,
-                       need, node, ran, request)
+from languages import (BINDINGS, CLEAN, CLIENTS, JNA, LANGUAGES, STRICT, WATCHED, are_kept, built_library, client,
+                       go_variables, need, node, ran, request)
 from support import TOP, rows
 from test_library import BOUNDS
 
@@ -189,10 +189,13 @@ def test_the_example_in_c_waits_for_its_server(library, tmp_path, words):
 
 def test_the_example_in_go_waits_for_its_server_and_its_tests_pass(library, tmp_path):
     need("go")
-    for command in ["vet", "test"]:
-        ran(["go", command, "./..."], BINDINGS / "go", **go_variables(built_library(library)))
-    ran(["go", "build", "-o", tmp_path / "example", "./example"], BINDINGS / "go",
-        **go_variables(built_library(library)))
+    folder, variables = tmp_path / "go", go_variables(built_library(library))
+    shutil.copytree(BINDINGS / "go", folder)
+    # Go's tests lie in the folder of what they test.
+    shutil.copy(CLIENTS / "only_in_go_test.go", folder)
+    ran(["go", "vet", "./..."], folder, **variables)
+    assert ran(["go", "test", "-v", "."], folder, **variables).count("--- PASS: ") == 4
+    ran(["go", "build", "-o", tmp_path / "example", "./example"], folder, **variables)
     assert ran(["./example"], tmp_path, LD_LIBRARY_PATH=library) == READY
 
 
@@ -200,13 +203,16 @@ def test_the_example_in_node_waits_for_its_server_and_its_tests_pass(library, tm
     node(tmp_path, built_library(library))
     addon = {"ZSCHED_NODE": tmp_path / "node_modules/zsched/zsched.node"}
     assert ran(["node", BINDINGS / "node" / "example.js"], tmp_path, **addon) == READY
-    assert "# pass 6\n" in ran(["node", "--test", BINDINGS / "node"], tmp_path, **addon)
+    shutil.copy(CLIENTS / "only_in_node.test.js", tmp_path)
+    assert "# pass 6\n" in ran(["node", "--test", "only_in_node.test.js"], tmp_path)
 
 
 def crate(library, tmp_path):
-    """A copy of the binding for Rust, and the variables for its programs."""
+    """A copy of the binding for Rust with its tests, and the variables for its programs."""
     need("cargo")
     shutil.copytree(BINDINGS / "rust", tmp_path / "rust", ignore=shutil.ignore_patterns("target", "Cargo.lock"))
+    (tmp_path / "rust" / "tests").mkdir()
+    shutil.copy(CLIENTS / "only_in_rust.rs", tmp_path / "rust" / "tests")
     return tmp_path / "rust", {"ZSCHED_LIBRARY_DIR": library, "RUSTFLAGS": "-D warnings", "CARGO_INCREMENTAL": "0",
                                "CARGO_PROFILE_DEV_DEBUG": "0"}
 
@@ -215,7 +221,7 @@ def test_the_example_in_rust_waits_for_its_server_and_its_tests_pass(library, tm
     folder, variables = crate(library, tmp_path)
     cargo = ["cargo", "--quiet", "--offline"]
     assert ran([*cargo, "run", "--example", "retry"], folder, **variables) == READY
-    assert re.findall(r"\d+ passed", ran([*cargo, "test"], folder, **variables)) == ["7 passed", "6 passed"]
+    assert re.findall(r"\d+ passed", ran([*cargo, "test"], folder, **variables)) == ["0 passed", "7 passed", "6 passed"]
     ran([*cargo, "check", "--no-default-features"], folder, **variables)
 
 
@@ -233,7 +239,7 @@ def test_the_example_under_tokio_waits_for_its_server(library, tmp_path):
 @pytest.mark.full
 def test_the_example_in_java_waits_for_its_server_and_its_test_passes(library, tmp_path):
     need("javac", JNA)
-    sources = [*BINDINGS.glob("java/zsched/*.java"), *BINDINGS.glob("java/*.java")]
+    sources = [*BINDINGS.glob("java/zsched/*.java"), BINDINGS / "java" / "Example.java", CLIENTS / "OnlyInJava.java"]
     ran(["javac", "-Xlint:all", "-Werror", "-cp", JNA, "-d", "classes", *sources], tmp_path)
-    for name, said in [("Example", READY), ("RetryTest", "")]:
+    for name, said in [("Example", READY), ("OnlyInJava", "")]:
         assert ran(["java", "-cp", f"{JNA}:classes", f"-Djna.library.path={library}", name], tmp_path) == said

@@ -1,8 +1,8 @@
 'use strict';
-// What only this binding has: `node --test`.
+// Tests what only the binding for Node has: `node --test`.
 const assert = require('node:assert');
 const { test } = require('node:test');
-const { Schedule, retry } = require('./zsched.js');
+const { Schedule, retry } = require('zsched');
 
 function failed() {
   throw new Error('failed');

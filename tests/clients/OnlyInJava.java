@@ -13,8 +13,8 @@ import zsched.Retry;
 import zsched.Schedule;
 import zsched.Stepper;
 
-/** What only this binding has. Exits with status 1 at the first difference. */
-public final class RetryTest {
+/** Tests what only the binding for Java has. Exits with status 1 at the first difference. */
+public final class OnlyInJava {
     private static final Exception BUSY = new Exception("busy");
 
     private static void same(Object found, Object wanted) {
@@ -31,7 +31,7 @@ public final class RetryTest {
     private static void interrupt() throws Exception {
         Thread.currentThread().interrupt();
         try {
-            Retry.of("spaced(100000)").call(RetryTest::fail);
+            Retry.of("spaced(100000)").call(OnlyInJava::fail);
         } catch (InterruptedException interrupted) {
             same(interrupted.getSuppressed()[0].getMessage(), "busy");
         }
@@ -50,7 +50,7 @@ public final class RetryTest {
     private static void input() throws Exception {
         int[] attempts = {0};
         try {
-            Retry.of("recurs(9)").inputOf(error -> 1 / (++attempts[0] - 2)).call(RetryTest::fail);
+            Retry.of("recurs(9)").inputOf(error -> 1 / (++attempts[0] - 2)).call(OnlyInJava::fail);
         } catch (Exception error) {
             same(List.of(error.getMessage(), error.getSuppressed()[0].getMessage(), attempts[0]), List.of("busy", "/ by zero", 2));
         }
