@@ -38,15 +38,12 @@ def place(path, text, at):
     return f"{path}:{text.count(chr(10), 0, at) + 1}"
 
 
-def sources(files):
-    return [(path, text) for path, text in files.items() if path.endswith(".rt")]
-
-
 def functions(files):
     """The functions, apart from laws, each with the comment before it."""
     return [types.SimpleNamespace(at=place(path, text, it.start()), is_public=it[2], name=it[3], text=it[0],
                                   comment=text[:it.start()].rpartition("\n\n")[2])
-            for path, text in sources(files) if not path.endswith("/laws.rt") for it in FUNCTION.finditer(text)]
+            for path, text in files.items() if path.endswith(".rt") and not path.endswith("/laws.rt")
+            for it in FUNCTION.finditer(text)]
 
 
 def count_parameters(text):
@@ -105,14 +102,14 @@ RULES = {
         lambda files: [it.at for it in functions(files) if it.name not in CALLED and LONG_CLAUSE.search(it.text)],
         "fn f()\n    ensures a { b\n        → c\n        → d }\n{}\n"),
     "each form is written out": (
-        lambda files: [place(*it, at.end()) for it in sources(files) for at in DEFAULT.finditer(it[1])],
+        lambda files: [place(*it, at.end()) for it in files.items() for at in DEFAULT.finditer(it[1])],
         "    Term::Map(s, _) => {\n        f(s)\n    }\n    _ => g(),\n"),
     "a limit is one constant": (limits_again, "const MAX_A: u64 = 10_000;\nconst MAX_B: u64 = 10000;\n"),
     "a line of specs has at most 100 columns": (
         lambda files: [place(*it, at.start()) for it in files.items() if it[0].endswith(".antt")
                        for at in re.finditer(".{101,}", it[1])], "-" * 101),
     "a file of src has at most 400 lines": (
-        lambda files: [path for path, text in sources(files) if text.count("\n") > 400], "\n" * 401)}
+        lambda files: [path for path in files if path.endswith(".rt") and files[path].count("\n") > 400], "\n" * 401)}
 
 
 @pytest.mark.parametrize("rule", RULES)
