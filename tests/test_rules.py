@@ -20,7 +20,7 @@ ITEM = re.compile(r"^( *)pub (?!use|mod)(?:(?:struct|enum|trait) (\w+)(?=([^;{]*
 LONG_CLAUSE = re.compile(r"^( +)(?:requires|ensures|invariant)\b.*\n(?:\1(?: +\S|\}).*\n){2}", re.M)
 PARTICIPLE = re.compile("(?!need|speed|exceed|succeed|proceed)(?:[a-z]+ed|(?:un)?(?:begun|bound|built|cut|drawn|found|"
                         "given|held|kept|known|left|lost|made|met|seen|sent|spent|taken|told|written))")
-FORMS = "Term|Out|Kind|Pick|Func|Cmp|Plain|Counted|Modifier|Pairing|Infix|State|LeafState|Leaf|Node"
+FORMS = "Term|Out|Kind|Pick|Func|Cmp|Plain|Counted|Modifier|Pairing|Infix|State|Leaf|Node|Form"
 DEFAULT = re.compile(rf"^( *)(?:{FORMS})::.*\n(?:(?:\1.*)?\n)*?\1(?=_ =>)", re.M)
 
 

@@ -1,5 +1,5 @@
--- How words are read as a node: by their tag, whatever follows it. `proofs/Nodes.antt` proves that
--- the code of a schedule is read as its node.
+-- How words are read as the form of a node: by their tag, whatever follows it. `proofs/Nodes.antt`
+-- proves that the code of a schedule is read as the form of its root.
 use Rattle.std.specs.Prelude.{◌≡◌, ℕ, ◌==◌, if◌then◌else◌, List, length, take, drop}
 use Rattle.zs_term.specs.Schedule.{Schedule, leaf, two, over, both, either, and_then, while_input}
 use Rattle.zs_term.specs.Schedule.{while_output, mapped, reset_when}
@@ -49,7 +49,7 @@ func_of w n =
 abbrev pub sizes_at : List ℕ → Sizes
 sizes_at code = record { code = word_at code 1; state = word_at code 2 }
 
--- the node of a tag and the words after it
+-- the form of a node, by its tag and the words after it
 unfoldable pub node_at : List ℕ → Form
 node_at code =
     let w = word_at code 0 in
@@ -67,7 +67,7 @@ node_at code =
 abbrev pub sizes_of : Schedule → Sizes
 sizes_of a = record { code = length (code_of a); state = held_size a }
 
--- a schedule with this node at its root
+-- a schedule whose root has this form
 abbrev pub IsNode : Form → Schedule → Type 0
 IsNode (Leaf l) t = (t ≡ leaf (state_leaf l)) × (l ≡ new_leaf (state_leaf l))
 IsNode (Both n) t = (a : Schedule) × (b : Schedule) × (t ≡ two both a b) × (n ≡ sizes_of a)

@@ -8,7 +8,7 @@ abbrev pub reading : {R : Type 0} → (R → Option (List ℕ)) → (R → Bool)
 reading remaining mark old new =
     record { before = remaining old; left = remaining new; failed = mark new }
 
--- a reader with the bytes of a buffer in front of its own
+-- a reader with the bytes of a buffer before its bytes
 abbrev pub with_buffer : List ℕ → Reading → Reading
 with_buffer buffer r =
     record { before = prepend_known buffer r.before; left = r.left; failed = r.failed }

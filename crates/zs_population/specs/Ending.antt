@@ -42,7 +42,7 @@ WroteBlocks r w Untouched (suc n) =
     (plan : PlanRecord) × Begins r plan × (length plan.jobs ≡ suc n * block_jobs)
     × Appends w.before w.taken (jobs_text plan.clock plan.jobs) × (w.flushed ≡ true)
 
--- Writing failed. A part of a text was written, after so many bytes of others.
+-- Writing failed. A part of a text was written, after `before` bytes of other texts.
 abbrev pub SentPart : ℕ → List ℕ → Option (List ℕ) → Option (List ℕ) → PopulationFault → Type 0
 SentPart before text old new fault = (sent : ℕ) × (fault ≡ Write (before + sent))
     × (sent ≤ length text) × Appends old new (take sent text)

@@ -15,7 +15,7 @@ pub(crate) struct Sizes {
     pub(crate) state: u64,
 }
 
-// A leaf, or an operator without its parts.
+// The form of a node: a leaf, or an operator without its parts.
 #[derive(Clone, Copy)]
 pub(crate) enum Form {
     Leaf(Leaf),
@@ -28,7 +28,7 @@ pub(crate) enum Form {
     ResetWhen(Pick, Test),
 }
 
-// Reads the node at the front of a code. Words that are no code are read as some node.
+// Reads the form of the node at the front of a code. Words that are no code are read as some form.
 #[inline(always)]
 #[tactic(auto, unfolding(crate::specs::Form::node_at))]
 pub(crate) fn read_node(code: &[u64]) -> Form
