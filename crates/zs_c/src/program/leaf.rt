@@ -1,11 +1,10 @@
-//! A leaf of a program: read from its code, loaded from the words of its state, stepped, and stored
-//! back.
+//! A leaf of a program: loaded from the words of its state, stepped, and stored back.
 
 ghost use Rattle.std.specs.Prelude.{◌≡◌, ◌∷◌};
 ghost use Rattle.zs_step.specs.History.{History};
 ghost use Rattle.zs_step.specs.LeafState.{state_leaf};
 ghost use Rattle.zs_c.specs.Code.{leaf_held};
-ghost use Rattle.zs_c.specs.Leaves.{ClearsLeaf, DecidesLeaf, Stores, new_leaf, rule_at, loaded, stored, if_begun, past_in, first_in};
+ghost use Rattle.zs_c.specs.Leaves.{ClearsLeaf, DecidesLeaf, Stores, loaded, stored, if_begun, past_in, first_in};
 
 use crate::program::node::word;
 use crate::room::put_words;
@@ -16,55 +15,6 @@ use zs_step::{Decision, Leaf, Past};
 pub(crate) struct Step {
     pub(crate) moment: u64,
     pub(crate) input: u64,
-}
-
-// Reads the leaf at the front of a code, before any step.
-#[inline(always)]
-#[tactic(auto, unfolding(crate::specs::Leaves::rule_at))]
-pub(crate) fn read_leaf(code: &[u64]) -> Leaf
-    ensures value { result ≡ new_leaf (rule_at code.now) }
-{
-    let number = word(code, 1);
-    match word(code, 0) {
-        2 => Leaf::Identity { last: 0 },
-        3 => Leaf::Elapsed {
-            first: None,
-            time: 0,
-        },
-        4 => Leaf::Recurs {
-            limit: number,
-            before: None,
-        },
-        5 => Leaf::Spaced {
-            delay: number,
-            before: None,
-        },
-        6 => Leaf::Fixed {
-            period: number,
-            past: None,
-            run: 0,
-        },
-        7 => Leaf::Fibonacci {
-            one: number,
-            last: 0,
-            next: number,
-        },
-        8 => Leaf::Linear {
-            unit: number,
-            last: 0,
-        },
-        9 => Leaf::Windowed {
-            period: number,
-            past: None,
-        },
-        10 => Leaf::Exponential {
-            base: number,
-            factor: word(code, 2),
-            last: number,
-            next: number,
-        },
-        _ => Leaf::Forever { before: None },
-    }
 }
 
 // Resets the words of a leaf that is as before any step.

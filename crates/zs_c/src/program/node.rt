@@ -1,10 +1,9 @@
 //! The nodes of a program, read from the front of a code.
 
 ghost use Rattle.std.specs.Prelude.{◌≡◌, take, drop};
-ghost use Rattle.zs_c.specs.Leaves.{word_at};
+ghost use Rattle.zs_c.specs.Leaves.{word_at, new_leaf, rule_at};
 ghost use Rattle.zs_c.specs.Form.{sizes_at, cmp_of, test_of, pick_of, func_of, node_at};
 
-use crate::program::leaf::read_leaf;
 use zs_step::Leaf;
 use zs_term::{Cmp, Func, Pick, Test};
 
@@ -49,6 +48,55 @@ pub(crate) fn read_node(code: &[u64]) -> Form
             read_test(word(code, 2), word(code, 3)),
         ),
         _ => Form::Leaf(read_leaf(code)),
+    }
+}
+
+// Reads the leaf at the front of a code, before any step.
+#[inline(always)]
+#[tactic(auto, unfolding(crate::specs::Leaves::rule_at))]
+pub(crate) fn read_leaf(code: &[u64]) -> Leaf
+    ensures value { result ≡ new_leaf (rule_at code.now) }
+{
+    let number = word(code, 1);
+    match word(code, 0) {
+        2 => Leaf::Identity { last: 0 },
+        3 => Leaf::Elapsed {
+            first: None,
+            time: 0,
+        },
+        4 => Leaf::Recurs {
+            limit: number,
+            before: None,
+        },
+        5 => Leaf::Spaced {
+            delay: number,
+            before: None,
+        },
+        6 => Leaf::Fixed {
+            period: number,
+            past: None,
+            run: 0,
+        },
+        7 => Leaf::Fibonacci {
+            one: number,
+            last: 0,
+            next: number,
+        },
+        8 => Leaf::Linear {
+            unit: number,
+            last: 0,
+        },
+        9 => Leaf::Windowed {
+            period: number,
+            past: None,
+        },
+        10 => Leaf::Exponential {
+            base: number,
+            factor: word(code, 2),
+            last: number,
+            next: number,
+        },
+        _ => Leaf::Forever { before: None },
     }
 }
 
