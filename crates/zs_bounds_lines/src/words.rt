@@ -1,10 +1,11 @@
 //! The request that the words of a command line are.
 ghost use Rattle.std.specs.Prelude.{◌≡◌, ◌+◌, ◌≤◌, IfSome, length, map, string_bytes};
-ghost use Rattle.zs_bounds_lines.specs.Words.{digits_from, dots_from, duration_of, durations_between, durations_of, number_of, request_from, unit_of, with_option};
+ghost use Rattle.zs_bounds_lines.specs.Words.{dots_from, duration_of, durations_between, durations_of, request_from, unit_of, with_option};
 
 use crate::fault::OptionFault;
 use crate::options::Options;
 use zs_bounds::Durations;
+use zs_lines::{digits, number};
 
 /// What the program is to do.
 #[derive(Clone, Copy, Debug, PartialEq, Eq)]
@@ -15,33 +16,6 @@ pub(crate) enum Request {
     Version,
     /// The bounds of the policies on standard input.
     Run(Options),
-}
-
-// The number of the digits at the front of a text, and how many they are.
-fn digits(text: &[u8]) -> Option<(u64, usize)>
-    ensures value { result ≡ digits_from 0 0 text.now }
-    ensures within { IfSome result (λ found. found.1 ≤ length text.now) }
-{
-    let mut number = 0u64;
-    let mut count = 0;
-    while count < text.len() && text[count].is_ascii_digit() {
-        let digit = u64::from(text[count] - b'0');
-        number = number.checked_mul(10)?.checked_add(digit)?;
-        count += 1;
-    }
-    Some((number, count))
-}
-
-// The number that a text is.
-fn number(text: &[u8]) -> Option<u64>
-    ensures value { result ≡ number_of text.now }
-{
-    let (number, count) = digits(text)?;
-    if 0 < count && count == text.len() {
-        Some(number)
-    } else {
-        None
-    }
 }
 
 // The milliseconds of a unit.

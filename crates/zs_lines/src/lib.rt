@@ -1,4 +1,4 @@
-//! The lines of a reader, one after another.
+//! The lines of a reader, one after another, and whole numbers in text.
 //!
 //! Each line that `Buffer::next_line` returns is the next one of `lines_of` the reader's bytes
 //! (`specs/Lines.antt`), if those are known. Only bytes of one pull are stored beside the line.
@@ -11,5 +11,7 @@
 #![tactic(auto)]
 
 mod buffer;
+mod numbers;
 
 pub use buffer::{Buffer, LineFault};
+pub use numbers::{digits, number};

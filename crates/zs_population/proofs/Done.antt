@@ -34,17 +34,17 @@ with_total-append xs ys polls =
     ∙ append_assoc xs (ys ++ codes "polls " ++ decimal polls) (codes "\n")
 
 -- The jobs of one more block, after those of the blocks so far.
-pub record Joined (clock : Ticks) (ahead ahead_now : Option (List ℕ)) (names : BTreeSet (String Global)) (before taken : Option (List ℕ)) (old more : List JobRecord) : Type 0 where
+pub record Joined (first : ℕ) (ahead ahead_now : Option (List ℕ)) (names : BTreeSet (String Global)) (old more : List JobRecord) : Type 0 where
   pub lines : List (List ℕ)
   pub read : Took ahead ahead_now lines
-  pub are : jobs_at 0 [] lines ≡ Ok (old ++ more)
+  pub are : jobs_at first [] lines ≡ Ok (old ++ more)
   pub known : KnowsNames names (names_of (old ++ more))
 
 -- no block yet
-pub done-nothing : (clock : Ticks) (ahead : Option (List ℕ)) (names : BTreeSet (String Global)) (before : Option (List ℕ)) → KnowsNames names []
-    → IsDone clock ahead ahead names 0 0 0 before before
+pub done-nothing : (clock : Ticks) (first : ℕ) (ahead : Option (List ℕ)) (names : BTreeSet (String Global)) (before : Option (List ℕ)) → KnowsNames names []
+    → IsDone clock first ahead ahead names 0 0 0 before before
 unfolding jobs_at
-done-nothing clock ahead names before known = record {
+done-nothing clock first ahead names before known = record {
   lines = [];
   jobs = [];
   read = took-nothing ahead;
@@ -75,27 +75,27 @@ text-begins clock old more count text total few whole last = elim (cases_lt (len
   )
 ]
 
-module _ (clock : Ticks) (ahead mid now : Option (List ℕ)) (names known : BTreeSet (String Global)) (blocks polls sent : ℕ) (before taken : Option (List ℕ)) where
+module _ (clock : Ticks) (first : ℕ) (ahead mid now : Option (List ℕ)) (names known : BTreeSet (String Global)) (blocks polls sent : ℕ) (before taken : Option (List ℕ)) where
   -- the jobs of a block join those of the blocks before
-  pub joined : (done : IsDone clock ahead mid names blocks polls sent before taken) (more : List JobRecord)
-      → BlockReads (blocks * block_jobs) mid now names known more → Joined clock ahead now known before taken done.jobs more
+  pub joined : (done : IsDone clock first ahead mid names blocks polls sent before taken) (more : List JobRecord)
+      → BlockReads (first + blocks * block_jobs) mid now names known more → Joined first ahead now known done.jobs more
   joined done more reads =
       let block = reads (names_of done.jobs) done.known in
-      let place : 0 + length done.jobs ≡ blocks * block_jobs = omega (arith, done.many) in
-      let are : jobs_at (0 + length done.jobs) ([] ++ names_of done.jobs) block.0 ≡ Ok more = rw place block.2 in
+      let place : first + length done.jobs ≡ first + blocks * block_jobs = omega (arith, done.many) in
+      let are : jobs_at (first + length done.jobs) ([] ++ names_of done.jobs) block.0 ≡ Ok more = rw place block.2 in
       record {
         lines = done.lines ++ block.0;
         read = took-more ahead mid now done.lines block.0 done.read block.1;
-        are = jobs-joined 0 [] done.lines block.0 done.jobs more done.are are;
+        are = jobs-joined first [] done.lines block.0 done.jobs more done.are are;
         known = rw (map-append (λ (job : JobRecord). job.name) done.jobs more) block.3;
       }
 
   -- one more whole block
-  pub more-done : (done : IsDone clock ahead mid names blocks polls sent before taken) (more : List JobRecord) (written : Option (List ℕ)) (count told : ℕ)
-      → BlockReads (blocks * block_jobs) mid now names known more → length more ≡ block_jobs
+  pub more-done : (done : IsDone clock first ahead mid names blocks polls sent before taken) (more : List JobRecord) (written : Option (List ℕ)) (count told : ℕ)
+      → BlockReads (first + blocks * block_jobs) mid now names known more → length more ≡ block_jobs
       → count ≡ polls + polls_of clock more → told ≡ sent + length (jobs_text clock more)
       → Appends taken written (jobs_text clock more)
-      → IsDone clock ahead now known (blocks + 1) count told before written
+      → IsDone clock first ahead now known (blocks + 1) count told before written
   more-done done more written count told reads many counts tells writes =
       let all = joined done more reads in
       record {
@@ -113,7 +113,7 @@ module _ (clock : Ticks) (ahead mid now : Option (List ℕ)) (names known : BTre
 
   -- A part of a block's text was written after all of the blocks before it. All text that was
   -- written is a beginning of the report of all jobs so far.
-  pub part-written : (done : IsDone clock ahead mid names blocks polls sent before taken) (more : List JobRecord) (plan : PlanRecord) (written : Option (List ℕ)) (text rest : List ℕ) (count : ℕ)
+  pub part-written : (done : IsDone clock first ahead mid names blocks polls sent before taken) (more : List JobRecord) (plan : PlanRecord) (written : Option (List ℕ)) (text rest : List ℕ) (count : ℕ)
       → plan.clock ≡ clock → plan.jobs ≡ done.jobs ++ more
       → text ++ rest ≡ with_total (jobs_text clock more) (polls_of clock (done.jobs ++ more)) → count ≤ length text
       → Appends taken written (take count text)
@@ -137,7 +137,7 @@ module _ (clock : Ticks) (ahead mid now : Option (List ℕ)) (names known : BTre
       )
 
   -- the last block went out whole
-  pub all-written : (done : IsDone clock ahead mid names blocks polls sent before taken) (more : List JobRecord) (plan : PlanRecord) (written : Option (List ℕ)) (text : List ℕ)
+  pub all-written : (done : IsDone clock first ahead mid names blocks polls sent before taken) (more : List JobRecord) (plan : PlanRecord) (written : Option (List ℕ)) (text : List ℕ)
       → plan.clock ≡ clock → plan.jobs ≡ done.jobs ++ more
       → text ≡ with_total (jobs_text clock more) (polls_of clock (done.jobs ++ more))
       → Appends taken written text → Appends before written (report_of plan)

@@ -1,15 +1,11 @@
 -- The jobs of lines that are put together.
-use Rattle.std.proofs.Common.{◌≡◌, ◌<◌, ◌≤◌, ◌+◌, ℕ, List, [], ◌∷◌, ◌++◌, length, Result, Ok, Err, Option, None, Some, refl, sym, ap, ◌∙◌, append_assoc, append-nil, arith, subst}
-use Rattle.std.specs.Io.KnownBytes.{IsAtEnd}
+use Rattle.std.proofs.Common.{◌≡◌, ◌<◌, ◌≤◌, ◌+◌, ℕ, suc, List, [], ◌∷◌, ◌++◌, length, Result, Ok, Err, None, refl, sym, ap, ◌∙◌, append_assoc, append-nil, arith, subst}
 use Rattle.std.proofs.lemmas.Bool.{le-ltb, lt-ltb}
 use Rattle.zs_drive.specs.Values.{JobRecord}
 use Rattle.zs_run.specs.declared.plan_fault.PlanFault.{PlanFault}
 use Rattle.zs_run.specs.declared.plan_fault.PlanFault.TheVariants as faults
-use Rattle.zs_run.specs.Head.{HeadRecord, head_of, job_of_bytes}
-use Rattle.zs_lines.specs.Lines.{lines_of}
-use Rattle.zs_lines.specs.Buffers.{BeginsWith, Took}
-use Rattle.zs_population.specs.Ending.{WasRefused}
-use Rattle.zs_population.specs.Population.{RejectedLine, job_at, jobs_at, max_population, population_of, ◌>>=◌}
+use Rattle.zs_run.specs.Head.{job_of_bytes}
+use Rattle.zs_population.specs.Population.{RejectedLine, job_at, jobs_at, max_population, ◌>>=◌}
 use Rattle.zs_population.specs.Reads.{names_of}
 
 abbrev Jobs : Type 0
@@ -111,44 +107,20 @@ refused-stays number names (x ∷ xs) ys refusal is =
     (refused-stays (number + 1) (names ++ job.name ∷ []) xs ys refusal
     (refused-before job (jobs_at (number + 1) (names ++ job.name ∷ []) xs) refusal here))) is
 
--- ---- populations
+-- the jobs, if all lines are jobs
+abbrev jobs_in : Jobs → List JobRecord
+jobs_in (Ok jobs) = jobs
+jobs_in (Err e) = []
 
--- a population by its head and its jobs
-pub populated : (first : List ℕ) (lines : List (List ℕ)) (head : HeadRecord) (jobs : List JobRecord) → head_of first ≡ Ok head
-    → jobs_at 0 [] lines ≡ Ok jobs
-    → population_of (first ∷ lines) ≡ Ok (record { clock = head.clock; workers = head.workers; grain = head.grain; jobs = jobs })
-unfolding population_of
-populated first lines head jobs is are = rw (is, are) refl
-
-refused-job : (first : List ℕ) (lines : List (List ℕ)) (head : HeadRecord) (refusal : RejectedLine) → head_of first ≡ Ok head
-    → jobs_at 0 [] lines ≡ Err refusal → population_of (first ∷ lines) ≡ Err refusal
-unfolding population_of
-refused-job first lines head refusal is are = rw (is, are) refl
-
-refused-head : (first : List ℕ) (lines : List (List ℕ)) (fault : PlanFault) → head_of first ≡ Err fault
-    → population_of (first ∷ lines) ≡ Err (record { line = 1; fault = fault })
-unfolding population_of
-refused-head first lines fault is = rw is refl
-
--- the first line is no head
-pub head-refused : (known : Option (List ℕ)) (first : List ℕ) (fault : PlanFault) → head_of first ≡ Err fault → BeginsWith known (first ∷ [])
-    → WasRefused known (record { line = 1; fault = fault })
-head-refused None first fault is begins = (first ∷ [], refused-head first [] fault is, tt)
-head-refused (Some xs) first fault is begins = (first ∷ begins.0, refused-head first begins.0 fault is, begins.1)
-
--- a line after the head is no job
-pub job-refused : (known : Option (List ℕ)) (first : List ℕ) (lines : List (List ℕ)) (head : HeadRecord) (refusal : RejectedLine) → head_of first ≡ Ok head
-    → jobs_at 0 [] lines ≡ Err refusal → BeginsWith known (first ∷ lines) → WasRefused known refusal
-job-refused None first lines head refusal is are begins = (first ∷ lines, refused-job first lines head refusal is are, tt)
-job-refused (Some xs) first lines head refusal is are begins =
-    (first ∷ (lines ++ begins.0), refused-job first (lines ++ begins.0) head refusal is (refused-stays 0 [] lines begins.0 refusal are), begins.1)
-
--- there is no line
-pub nothing-refused : (old now : Option (List ℕ)) → Took old now [] → IsAtEnd now → WasRefused old (record { line = 1; fault = faults.Json })
-unfolding population_of
-nothing-refused None now none end = ([], refl, tt)
-nothing-refused (Some xs) None none end = absurd none
-nothing-refused (Some xs) (Some ys) none end = ([], refl, none ∙ ap lines_of end)
+-- there are as many jobs as lines
+pub jobs-length : (number : ℕ) (names : List (List ℕ)) (xs : List (List ℕ)) (jobs : List JobRecord) → jobs_at number names xs ≡ Ok jobs → length xs ≡ length jobs
+unfolding jobs_at
+jobs-length number names [] jobs are = let none : Ok [] ≡ Ok jobs = are in ap (λ r. length (jobs_in r)) none
+jobs-length number names (x ∷ xs) jobs are =
+    let one = found (job_at number names x) (λ job. jobs_at (number + 1) (names ++ job.name ∷ []) xs >>= (λ jobs. Ok (job ∷ jobs))) jobs are in
+    let rest = found (jobs_at (number + 1) (names ++ one.0.name ∷ []) xs) (λ jobs. Ok (one.0 ∷ jobs)) jobs one.2 in
+    let all : Ok (one.0 ∷ rest.0) ≡ Ok jobs = rest.2 in
+    ap suc (jobs-length (number + 1) (names ++ one.0.name ∷ []) xs rest.0 rest.1) ∙ ap (λ r. length (jobs_in r)) all
 
 -- ---- single jobs
 

@@ -1,4 +1,5 @@
 pub mod JobsLemmas
+pub mod RangeLemmas
 pub mod BlockLemmas
 pub mod Done
 pub mod Endings

@@ -18,14 +18,14 @@ IsWhole zero flushed Untouched = Untouched
 IsWhole (suc n) flushed Untouched = flushed ≡ true
 
 -- Some blocks were read, run, written and counted. `ahead` are the bytes that the reader and the
--- buffer had before and have now, `before` and `taken` those of the writer.
-pub record IsDone (clock : Ticks) (ahead ahead_now : Option (List ℕ))
+-- buffer had before and have now, `first` is the number of their first job, `before` and `taken` those of the writer.
+pub record IsDone (clock : Ticks) (first : ℕ) (ahead ahead_now : Option (List ℕ))
     (names : BTreeSet (String Global)) (blocks polls sent : ℕ)
     (before taken : Option (List ℕ)) : Type 0 where
   pub lines : List (List ℕ)
   pub jobs : List JobRecord
   pub read : Took ahead ahead_now lines
-  pub are : jobs_at 0 [] lines ≡ Ok jobs
+  pub are : jobs_at first [] lines ≡ Ok jobs
   pub known : KnowsNames names (names_of jobs)
   pub many : length jobs ≡ blocks * block_jobs
   pub counted : polls ≡ polls_of clock jobs

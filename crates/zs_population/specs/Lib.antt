@@ -3,5 +3,6 @@ pub mod Population
 pub mod Ending
 pub mod Status
 -- What the bodies store: private contracts alone name these.
+pub mod Skipped
 pub mod Reads
 pub mod Blocks

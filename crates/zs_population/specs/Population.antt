@@ -1,7 +1,7 @@
 -- The population of some lines, or the first line that is rejected. The first line is the
 -- document of a plan without jobs, each other line a job. A population is a plan that may have
--- more jobs.
-use Rattle.std.specs.Prelude.{ℕ, ◌+◌, List, [], ◌∷◌, ◌++◌, nat_lt, None, Result, Ok, Err}
+-- more jobs. It has the jobs of a range; the other lines of jobs aren't looked at.
+use Rattle.std.specs.Prelude.{ℕ, ◌+◌, List, [], ◌∷◌, ◌++◌, take, drop, nat_lt, None, Result, Ok, Err}
 use Rattle.zs_drive.specs.Values.{JobRecord}
 use Rattle.zs_pool.specs.Limits.{max_tasks}
 use Rattle.zs_run.specs.declared.plan_fault.PlanFault.{PlanFault}
@@ -10,6 +10,7 @@ use Rattle.zs_run.specs.Refusals.{demand}
 use Rattle.zs_run.specs.Head.{head_of, job_of_bytes}
 use Rattle.zs_run.specs.Plan.{PlanRecord}
 use Rattle.zs_population.specs.declared.block.TheConstants.{MAX_POPULATION}
+use Rattle.zs_population.specs.declared.range.JobRange.{JobRange}
 
 -- the most jobs of a population
 abbrev pub max_population : ℕ
@@ -51,10 +52,14 @@ jobs_at number names (line ∷ lines) = do
   jobs ← jobs_at (number + 1) (names ++ job.name ∷ []) lines
   Ok (job ∷ jobs)
 
--- the population of lines
-unfoldable pub population_of : List (List ℕ) → Result PlanRecord RejectedLine
-population_of [] = Err (record { line = 1; fault = faults.Json })
-population_of (first ∷ lines) = do
+-- the lines of the jobs of a range, of all lines of jobs
+abbrev pub lines_in : JobRange → List (List ℕ) → List (List ℕ)
+lines_in range lines = take range.count (drop range.first lines)
+
+-- the population that the jobs of a range are
+unfoldable pub population_of : JobRange → List (List ℕ) → Result PlanRecord RejectedLine
+population_of range [] = Err (record { line = 1; fault = faults.Json })
+population_of range (first ∷ lines) = do
   head ← at_line 1 (head_of first)
-  jobs ← jobs_at 0 [] lines
+  jobs ← jobs_at range.first [] (lines_in range lines)
   Ok (record { clock = head.clock; workers = head.workers; grain = head.grain; jobs = jobs })

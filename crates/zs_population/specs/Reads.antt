@@ -1,5 +1,5 @@
 -- What reading jobs returns: which lines were taken, and which jobs they are.
-use Rattle.std.specs.Prelude.{◌≡◌, ◌≢◌, ◌<◌, ℕ, ◌+◌, List, [], ◌∷◌, ◌++◌, map, ⊤, Option, Ok, Err}
+use Rattle.std.specs.Prelude.{◌≡◌, ◌≢◌, ◌<◌, ℕ, ◌+◌, List, [], ◌∷◌, ◌++◌, length, map, ⊤, Option, Ok, Err}
 use Rattle.std.specs.BTreeSet.{BTreeSet}
 use Rattle.std.proofs.Common.{String, Global}
 use Rattle.zs_drive.specs.Values.{JobRecord}
@@ -9,9 +9,10 @@ use Rattle.zs_run.specs.declared.plan_fault.PlanFault.{PlanFault}
 use Rattle.zs_run.specs.declared.plan_fault.PlanFault.TheVariants as faults
 use Rattle.zs_lines.specs.Buffers.{BeginsWith, Took}
 use Rattle.zs_population.specs.Ending.{WasRefused}
-use Rattle.zs_population.specs.Population.{RejectedLine, block_jobs, job_at, jobs_at}
+use Rattle.zs_population.specs.Population.{RejectedLine, job_at, jobs_at}
 use Rattle.zs_lines.specs.declared.buffer.LineFault.{LineFault}
 use Rattle.zs_lines.specs.declared.buffer.LineFault.TheVariants as unread
+use Rattle.zs_population.specs.declared.range.JobRange.{JobRange}
 use Rattle.zs_population.specs.declared.fault.PopulationFault.{PopulationFault}
 use Rattle.zs_population.specs.declared.fault.PopulationFault.TheVariants.{Read, Line, Engine}
 use Rattle.zs_population.specs.declared.fault.PopulationFault.TheVariants.{Write}
@@ -50,23 +51,34 @@ BlockReads first old new known now jobs = (earlier : List (List ℕ)) → KnowsN
     → (lines : List (List ℕ)) × Took old new lines × (jobs_at first earlier lines ≡ Ok jobs)
     × KnowsNames now (earlier ++ names_of jobs)
 
--- One of the next lines is rejected, and the lines before it are jobs.
-abbrev pub BlockRefused : ℕ → Option (List ℕ) → BTreeSet (String Global) → RejectedLine → Type 0
-BlockRefused first old known refusal = (earlier : List (List ℕ)) → KnowsNames known earlier
-    → (lines : List (List ℕ)) × BeginsWith old lines × (jobs_at first earlier lines ≡ Err refusal)
+-- The last of the next `count` lines is rejected, and the lines before it are jobs.
+abbrev pub BlockRefused : ℕ → ℕ → Option (List ℕ) → BTreeSet (String Global) → RejectedLine → Type 0
+BlockRefused first count old known refusal = (earlier : List (List ℕ)) → KnowsNames known earlier
+    → (lines : List (List ℕ)) × (length lines ≡ count) × BeginsWith old lines
+    × (jobs_at first earlier lines ≡ Err refusal)
 
 -- why a block can't be read
-abbrev pub BlockFault : ℕ → Option (List ℕ) → BTreeSet (String Global) → PopulationFault → Type 0
-BlockFault first old known Read = ⊤
-BlockFault first old known (Line line fault) = (k : ℕ) × (line ≡ first + k + 2) × (k < block_jobs)
-    × (fault ≢ faults.Memory → BlockRefused first old known (record { line = line; fault = fault }))
-BlockFault first old known (Engine fault) = ⊥
-BlockFault first old known (Write sent) = ⊥
+abbrev pub BlockFault : ℕ → ℕ → Option (List ℕ) → BTreeSet (String Global) → PopulationFault
+    → Type 0
+BlockFault first size old known Read = ⊤
+BlockFault first size old known (Line line fault) =
+    (k : ℕ) × (line ≡ first + k + 2) × (k < size) × (fault ≢ faults.Memory
+    → BlockRefused first (k + 1) old known (record { line = line; fault = fault }))
+BlockFault first size old known (Engine fault) = ⊥
+BlockFault first size old known (Write sent) = ⊥
 
 -- why the head can't be read
 abbrev pub HeadFault : Option (List ℕ) → PopulationFault → Type 0
 HeadFault old Read = ⊤
 HeadFault old (Line line fault) =
-    (line ≡ 1) × (fault ≢ faults.Memory → WasRefused old (record { line = line; fault = fault }))
+    (line ≡ 1) × (fault ≢ faults.Memory
+    → (range : JobRange) → WasRefused range old (record { line = line; fault = fault }))
 HeadFault old (Engine fault) = ⊥
 HeadFault old (Write sent) = ⊥
+
+-- why lines can't be skipped
+abbrev pub SkipFault : ℕ → PopulationFault → Type 0
+SkipFault count Read = ⊤
+SkipFault count (Line line fault) = (line < count + 2) × (fault ≡ faults.Memory)
+SkipFault count (Engine fault) = ⊥
+SkipFault count (Write sent) = ⊥

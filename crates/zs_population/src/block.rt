@@ -1,5 +1,5 @@
 //! Blocks of jobs: read, run and written.
-ghost use Rattle.std.specs.Prelude.{◌≡◌, ◌≤◌, ◌<◌, ◌+◌, ◌^◌, ◌↔◌, ℕ, List, map, length, Ok, Err, true, false, is_err, IfOk, IfErr, OnOk, IsErrOf, IsTrue, string_bytes};
+ghost use Rattle.std.specs.Prelude.{◌≡◌, ◌≤◌, ◌<◌, ◌+◌, ◌*◌, ◌^◌, ◌↔◌, ℕ, List, map, length, Ok, Err, true, false, is_err, IfOk, IfErr, OnOk, IsErrOf, IsTrue, string_bytes};
 ghost use Rattle.std.specs.Io.KnownBytes.{Appends, IsAtEnd};
 ghost use Rattle.zs_drive.specs.Values.{job_record};
 ghost use Rattle.zs_run.specs.HeadView.{head_record};
@@ -10,7 +10,8 @@ ghost use Rattle.zs_run.specs.PlanView.{plan_record};
 ghost use Rattle.zs_lines.specs.Buffers.{ahead};
 ghost use Rattle.zs_population.specs.Ending.{SentPart};
 ghost use Rattle.zs_population.specs.Population.{block_jobs, job_at, max_population};
-ghost use Rattle.zs_population.specs.Reads.{AddsJob, BlockFault, BlockReads, HeadFault, HeadReads, IsNoJob, line_fault_of};
+ghost use Rattle.zs_population.specs.Reads.{AddsJob, BlockFault, BlockReads, HeadFault, HeadReads, IsNoJob, SkipFault, line_fault_of};
+ghost use Rattle.zs_population.specs.Skipped.{Skipped};
 
 use crate::fault::PopulationFault;
 use std::alloc::Global;
@@ -78,6 +79,39 @@ pub(crate) fn read_first<R: Source>(
     }
 }
 
+/// Reads past this number of lines, or past all if there are fewer. They aren't looked at.
+pub(crate) fn skip_lines<R: Source>(
+    alloc: Global,
+    reader: &mut R,
+    buffer: &mut Buffer,
+    count: u64,
+) -> Result<(), PopulationFault>
+    requires clear { R.mark reader.old ≡ false }
+    requires few { count ≤ max_population }
+    ensures skipped { OnOk result (Skipped count (ahead R.remaining buffer.old reader.old)
+        (ahead R.remaining buffer.new reader.new)) }
+    ensures fault { IfErr result (SkipFault count) }
+    ensures marks { IsTrue (R.mark reader.new) ↔ IsErrOf result PopulationFault.Read }
+{
+    let mut line = Vec::new(alloc);
+    let mut number = 0;
+    while number < count {
+        match buffer.next_line(reader, &mut line, usize::MAX) {
+            Ok(true) => {}
+            Ok(false) => return Ok(()),
+            Err(LineFault::Read) => return Err(PopulationFault::Read),
+            Err(LineFault::TooLong | LineFault::Memory) => {
+                return Err(PopulationFault::Line {
+                    line: number + 2,
+                    fault: PlanFault::Memory,
+                });
+            }
+        }
+        number += 1;
+    }
+    Ok(())
+}
+
 // Parses a line as the job with this number, after jobs with these names.
 fn job_at(
     alloc: Global,
@@ -116,29 +150,46 @@ fn add_line(
     Ok(())
 }
 
-/// Reads the jobs of the next block: fewer than `BLOCK` if no line remains.
+/// How many jobs the next block has, of this number of jobs: fewer than `BLOCK` if it is the last.
+pub(crate) fn block_size(count: u64, blocks: u64) -> u64
+    requires within { blocks * block_jobs ≤ count }
+    ensures block { result ≤ block_jobs }
+    ensures within { blocks * block_jobs + result ≤ count }
+    ensures last { result < block_jobs → blocks * block_jobs + result ≡ count }
+{
+    let left = count - blocks * BLOCK as u64;
+    if left < BLOCK as u64 {
+        left
+    } else {
+        BLOCK as u64
+    }
+}
+
+/// Reads the jobs of the next block: fewer than `size` if no line remains.
 pub(crate) fn read_block<R: Source>(
     alloc: Global,
     reader: &mut R,
     buffer: &mut Buffer,
     names: &mut BTreeSet<String>,
     first: u64,
+    size: u64,
 ) -> Result<Vec<Job>, PopulationFault>
     requires clear { R.mark reader.old ≡ false }
     requires few { first ≤ max_population }
-    ensures block { IfOk result (λ jobs. length jobs.items ≤ block_jobs) }
+    requires block { size ≤ block_jobs }
+    ensures size { IfOk result (λ jobs. length jobs.items ≤ size) }
     ensures few { IfOk result (λ jobs. first + length jobs.items ≤ max_population) }
     ensures jobs { IfOk result (λ jobs. BlockReads first (ahead R.remaining buffer.old reader.old)
         (ahead R.remaining buffer.new reader.new) names.old names.new (map job_record jobs.items)) }
-    ensures last { IfOk result (λ jobs. length jobs.items < block_jobs
+    ensures last { IfOk result (λ jobs. length jobs.items < size
         → IsAtEnd (ahead R.remaining buffer.new reader.new)) }
     ensures fault { IfErr result
-        (BlockFault first (ahead R.remaining buffer.old reader.old) names.old) }
+        (BlockFault first size (ahead R.remaining buffer.old reader.old) names.old) }
     ensures marks { IsTrue (R.mark reader.new) ↔ IsErrOf result PopulationFault.Read }
 {
     let mut jobs = Vec::new(alloc);
     let mut line = Vec::new(alloc);
-    while jobs.len() < BLOCK {
+    while (jobs.len() as u64) < size {
         let number = first + jobs.len() as u64;
         match buffer.next_line(reader, &mut line, MAX_BYTES) {
             Ok(true) => {}

@@ -14,7 +14,9 @@
 
 mod block;
 mod fault;
+mod range;
 mod running;
 
 pub use fault::{PopulationFault, exit_code, status};
+pub use range::JobRange;
 pub use running::run_population;

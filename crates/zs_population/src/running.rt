@@ -1,10 +1,14 @@
 //! The run of a population, from its lines to the bytes of its report.
-ghost use Rattle.std.specs.Prelude.{◌≡◌, false};
+ghost use Rattle.std.specs.Prelude.{◌≡◌, ◌≤◌, false};
 ghost use Rattle.zs_lines.specs.Streams.{ByWriter, reading, with_buffer};
 ghost use Rattle.zs_population.specs.Ending.{BlocksEnd, Ends};
+ghost use Rattle.zs_population.specs.Population.{max_population};
 
-use crate::block::{BLOCK, read_block, read_first, run_block, write_block};
+use crate::block::{
+    BLOCK, block_size, read_block, read_first, run_block, skip_lines, write_block,
+};
 use crate::fault::PopulationFault;
+use crate::range::JobRange;
 use std::alloc::Global;
 use std::collections::BTreeSet;
 use std::sync::Wait;
@@ -13,29 +17,39 @@ use zs_lines::Buffer;
 use zs_pool::Gate;
 use zs_run::{Drain, Head, Source};
 
-// Runs the jobs after the head, block by block.
+// The head, and the jobs that are run.
+#[derive(Drop)]
+struct Part {
+    head: Head,
+    range: JobRange,
+}
+
+// Runs the jobs of a part, block by block. The reader is at the first one.
 fn run_blocks<T: Threads + Wait + Sync, G: Gate, R: Source, W: Drain>(
     rt: &T,
     alloc: Global,
     gate: &G,
-    head: &Head,
+    part: &Part,
     buffer: &mut Buffer,
     reader: &mut R,
     writer: &mut W,
 ) -> Result<(), PopulationFault>
     requires reader_clear { R.mark reader.old ≡ false }
     requires writer_clear { W.mark writer.old ≡ false }
+    requires few { part.now.range.first ≤ max_population }
     ensures ends { ByWriter W.contents W.mark W.flushed writer.old writer.new (BlocksEnd result
-        head.now (with_buffer buffer.old (reading R.remaining R.mark reader.old reader.new))) }
+        part.now.head part.now.range (with_buffer buffer.old (reading R.remaining R.mark reader.old reader.new))) }
 {
     let mut names = BTreeSet::new(alloc);
     let mut polls = 0;
     let mut sent = 0;
     let mut blocks = 0;
     loop {
-        let jobs = read_block(alloc, reader, buffer, &mut names, blocks * BLOCK as u64)?;
+        let first = part.range.first + blocks * BLOCK as u64;
+        let size = block_size(part.range.count, blocks);
+        let jobs = read_block(alloc, reader, buffer, &mut names, first, size)?;
         let is_last = jobs.len() < BLOCK;
-        let text = match run_block(rt, alloc, gate, head, jobs, &mut polls) {
+        let text = match run_block(rt, alloc, gate, &part.head, jobs, &mut polls) {
             Ok(text) => text,
             Err(fault) => return Err(PopulationFault::Engine(fault)),
         };
@@ -47,7 +61,7 @@ fn run_blocks<T: Threads + Wait + Sync, G: Gate, R: Source, W: Drain>(
     }
 }
 
-/// Reads a population to the end of input, a block of at most 10,000 jobs at a time. Runs each
+/// Reads a population to the end of its range, a block of at most 10,000 jobs at a time. Runs each
 /// block, writes its report and flushes. The last line is the total of all polls.
 ///
 /// Without memory the result is `Line` while a line is read, else `Engine`. The clauses on bytes
@@ -56,17 +70,21 @@ pub fn run_population<T: Threads + Wait + Sync, G: Gate, R: Source, W: Drain>(
     rt: &T,
     alloc: Global,
     gate: &G,
+    range: JobRange,
     reader: &mut R,
     writer: &mut W,
 ) -> Result<(), PopulationFault>
     requires reader_clear { R.mark reader.old ≡ false }
     requires writer_clear { W.mark writer.old ≡ false }
+    requires few { range.first ≤ max_population }
 
     // Success and each fault, by the reader, the writer, and whether the writer is unchanged.
     ensures ends { ByWriter W.contents W.mark W.flushed writer.old writer.new
-        (Ends result (reading R.remaining R.mark reader.old reader.new)) }
+        (Ends range result (reading R.remaining R.mark reader.old reader.new)) }
 {
     let mut buffer = Buffer::new(alloc);
     let head = read_first(alloc, reader, &mut buffer)?;
-    run_blocks(rt, alloc, gate, &head, &mut buffer, reader, writer)
+    skip_lines(alloc, reader, &mut buffer, range.first)?;
+    let part = Part { head, range };
+    run_blocks(rt, alloc, gate, &part, &mut buffer, reader, writer)
 }

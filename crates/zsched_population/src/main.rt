@@ -7,13 +7,13 @@
 
 use std::process::ExitCode;
 use zs_pool::OpenGate;
-use zs_population::{exit_code, run_population};
+use zs_population::{JobRange, exit_code, run_population};
 use zs_run::Marked;
 
 fn main(rt: HostRuntime) -> ExitCode {
     let mut reader = Marked::new(rt.stdin());
     let mut writer = Marked::new(rt.stdout());
-    let ended = run_population(&rt, rt.alloc(), &OpenGate, &mut reader, &mut writer);
+    let ended = run_population(&rt, rt.alloc(), &OpenGate, JobRange { first: 0, count: u64::MAX }, &mut reader, &mut writer);
     if let Err(fault) = &ended {
         // If standard error fails too, nothing more can be done.
         let _ = eprintln!(rt; "zsched-population: {fault}");

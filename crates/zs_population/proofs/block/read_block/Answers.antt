@@ -3,7 +3,6 @@ use Rattle.std.specs.Io.KnownBytes.{prepend_known}
 use Rattle.std.proofs.lemmas.List.{length-map}
 use Rattle.zs_drive.specs.Values.{JobRecord, job_record}
 use Rattle.zs_lines.specs.Buffers.{Took}
-use Rattle.zs_population.specs.Population.{block_jobs}
 use Rattle.zs_population.specs.Reads.{AddsJob}
 use Rattle.zs_population.proofs.BlockLemmas.{block-refused, block-unread, reads-more, reads-nothing}
 use Rattle.zs_lines.proofs.LineLemmas.{clear-at-ok}
@@ -21,12 +20,12 @@ returns-in-Err-clause-fault g c =
     let jobs : List JobRecord = map job_record c.loop-alloc.jobs.items in
     let k : ℕ = c.len-in-loop-alloc.result in
     let count : k ≡ length jobs = omega (arith, c.len-in-loop-alloc.ensures, c.loop-alloc.jobs.ok.0, length-map c.loop-alloc.jobs.items job_record) in
-    let few : k < block_jobs = omega (arith, c.len-in-loop-alloc.ensures, c.len.ensures, c.loop-alloc-test.true) in
+    let few : k < c.args.size = omega (arith, c.len-in-loop-alloc.ensures, c.len.ensures, c.loop-alloc-test.true) in
     let old : Option (List ℕ) = prepend_known c.args.buffer.now (g.R.Source.remaining c.args.reader.now) in
     let mid : Option (List ℕ) = prepend_known c.loop-alloc.buffer (g.R.Source.remaining c.loop-alloc.reader) in
     let now : Option (List ℕ) = prepend_known c.next_line.new.self (g.R.Source.remaining c.next_line.new.reader) in
     rw c.line_fault.ensures.value
-    (block-unread c.args.first k (c.args.first + k) old mid now c.args.names.now c.loop-alloc.names c.next_line.new.line.items jobs c.in-Err.fault
+    (block-unread c.args.first c.args.size k (c.args.first + k) old mid now c.args.names.now c.loop-alloc.names c.next_line.new.line.items jobs c.in-Err.fault
     count refl few c.loop-alloc.invariant.3 c.in-Err.ensures.line)
 
 -- the next line is no job
@@ -35,7 +34,7 @@ returns-in-Err-add_line-clause-fault g c =
     let jobs : List JobRecord = map job_record c.loop-alloc.jobs.items in
     let k : ℕ = c.len-in-loop-alloc.result in
     let count : k ≡ length jobs = omega (arith, c.len-in-loop-alloc.ensures, c.loop-alloc.jobs.ok.0, length-map c.loop-alloc.jobs.items job_record) in
-    let few : k < block_jobs = omega (arith, c.len-in-loop-alloc.ensures, c.len.ensures, c.loop-alloc-test.true) in
+    let few : k < c.args.size = omega (arith, c.len-in-loop-alloc.ensures, c.len.ensures, c.loop-alloc-test.true) in
     let old : Option (List ℕ) = prepend_known c.args.buffer.now (g.R.Source.remaining c.args.reader.now) in
     let mid : Option (List ℕ) = prepend_known c.loop-alloc.buffer (g.R.Source.remaining c.loop-alloc.reader) in
     let now : Option (List ℕ) = prepend_known c.next_line.new.self (g.R.Source.remaining c.next_line.new.reader) in
@@ -45,7 +44,7 @@ returns-in-Err-add_line-clause-fault g c =
       refl,
       few,
       block-refused c.args.first k (c.args.first + k) old mid now c.args.names.now c.loop-alloc.names line jobs c.in-Err-add_line.fault
-          count refl few c.loop-alloc.invariant.3 took (rw c.as_slice.ensures.value at c.in-Err-add_line.ensures.fault),
+          count refl c.loop-alloc.invariant.3 took (rw c.as_slice.ensures.value at c.in-Err-add_line.ensures.fault),
     )
 
 -- one job more

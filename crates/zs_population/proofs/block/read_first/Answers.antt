@@ -1,7 +1,7 @@
 use Rattle.std.proofs.Common.{◌∷◌, [], List, ℕ, Option, refl}
 use Rattle.std.specs.Io.KnownBytes.{prepend_known}
 use Rattle.zs_population.proofs.BlockLemmas.{head-unread}
-use Rattle.zs_population.proofs.JobsLemmas.{head-refused, nothing-refused}
+use Rattle.zs_population.proofs.RangeLemmas.{head-refused, nothing-refused}
 use Rattle.zs_lines.proofs.LineLemmas.{begins}
 use Rattle.zs_population.proofs.block.read_first.Goals as goal
 
@@ -9,7 +9,7 @@ use Rattle.zs_population.proofs.block.read_first.Goals as goal
 pub returns-in-Ok-false-clause-fault : goal.returns-in-Ok-false-clause-fault
 returns-in-Ok-false-clause-fault g c =
     let read = rw c.in-Ok-false.field-0-test at c.in-Ok-false.ensures.line in
-    (refl, λ other. nothing-refused _ _ read.0 read.1)
+    (refl, λ other range. nothing-refused range _ _ read.0 read.1)
 
 -- it can't be read
 pub returns-in-Err-clause-fault : goal.returns-in-Err-clause-fault
@@ -22,4 +22,4 @@ returns-clause-fault g c =
     let now : Option (List ℕ) = prepend_known c.next_line.new.self (g.R.Source.remaining c.next_line.new.reader) in
     let line : List ℕ = c.next_line.new.line.items in
     let read = rw c.in-Ok-true.field-0-test at c.in-Ok-true.ensures.line in
-    (refl, λ other. head-refused old line c.in-Err-read_head.fault (rw c.as_slice.ensures.value at (c.in-Err-read_head.ensures.head other)) (begins old now (line ∷ []) read))
+    (refl, λ other range. head-refused range old line c.in-Err-read_head.fault (rw c.as_slice.ensures.value at (c.in-Err-read_head.ensures.head other)) (begins old now (line ∷ []) read))

@@ -1,4 +1,4 @@
-use Rattle.std.proofs.Common.{◌≡◌, ◌≤◌, ◌*◌, ◌^◌, ◌-◌, false}
+use Rattle.std.proofs.Common.{◌≡◌, ◌≤◌, ◌+◌, ◌*◌, ◌^◌, ◌-◌, false}
 use Rattle.std.specs.Io.KnownBytes.{prepend_known}
 use Rattle.zs_run.specs.HeadView.{head_record}
 use Rattle.zs_population.specs.Blocks.{IsDone, IsWhole}
@@ -10,10 +10,11 @@ abbrev pub invariant-loop-names : goal.invariant-loop-names
 invariant-loop-names g l = record {
   reader : g.R.Source.mark l.reader ≡ false;
   writer : g.W.Drain.mark l.writer ≡ false;
-  few : l.blocks * block_jobs ≤ max_population;
+  few : l.part.range.first + l.blocks * block_jobs ≤ max_population;
+  within : l.blocks * block_jobs ≤ l.part.range.count;
   polled : l.polls ≤ l.blocks * 2 ^ 64;
   told : l.sent ≤ l.blocks * 2 ^ 64;
-  done : IsDone (head_record l.head).clock (prepend_known l.fn.buffer (g.R.Source.remaining l.fn.reader)) (prepend_known l.buffer (g.R.Source.remaining l.reader))
+  done : IsDone (head_record l.part.head).clock l.part.range.first (prepend_known l.fn.buffer (g.R.Source.remaining l.fn.reader)) (prepend_known l.buffer (g.R.Source.remaining l.reader))
       l.names l.blocks l.polls l.sent (g.W.Drain.contents l.fn.writer) (g.W.Drain.contents l.writer);
   whole : IsWhole l.blocks (g.W.Drain.flushed l.writer) (l.writer ≡ l.fn.writer);
 }

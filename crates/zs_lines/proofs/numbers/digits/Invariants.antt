@@ -1,6 +1,6 @@
 use Rattle.std.proofs.Common.{◌≡◌, ◌≤◌, ◌-◌, length, drop}
-use Rattle.zs_bounds_lines.specs.Words.{digits_from}
-use Rattle.zs_bounds_lines.proofs.words.digits.Given as goal
+use Rattle.zs_lines.specs.Numbers.{digits_from}
+use Rattle.zs_lines.proofs.numbers.digits.Given as goal
 
 -- the digits so far, and those after them, are all digits
 abbrev pub invariant-loop-count : goal.invariant-loop-count
