@@ -14,11 +14,11 @@ use Rattle.zs_population.specs.Blocks.{IsDone, IsWhole}
 use Rattle.zs_lines.specs.Buffers.{Took}
 use Rattle.zs_population.specs.Ending.{Ends, WroteBlocks}
 use Rattle.zs_population.specs.Population.{block_jobs}
-use Rattle.zs_population.specs.Reads.{BlockFault, BlockReads, HeadFault, SkipFault, names_of}
+use Rattle.zs_population.specs.Reads.{BlockFault, BlockReads, HeadFault, names_of}
 use Rattle.zs_population.specs.Skipped.{Skipped}
 use Rattle.zs_population.specs.declared.range.JobRange.{JobRange}
 use Rattle.zs_population.specs.declared.fault.PopulationFault.{PopulationFault}
-use Rattle.zs_population.specs.declared.fault.PopulationFault.TheVariants.{Read, Line, Engine, Write}
+use Rattle.zs_population.specs.declared.fault.PopulationFault.TheVariants.{Read, Line, Engine, Write, Words}
 use Rattle.zs_lines.proofs.LineLemmas.{begins-more}
 use Rattle.zs_population.proofs.JobsLemmas.{jobs-length, jobs-refused}
 use Rattle.zs_population.proofs.RangeLemmas.{has-begun, is-population, job-refused, plan_with}
@@ -86,6 +86,7 @@ module _ (range : JobRange) (start after ahead mid : Option (List ℕ)) (first :
       )
   ends-unread blocks size done within few left read flushed Untouched (Engine fault) whole stopped marks = absurd stopped
   ends-unread blocks size done within few left read flushed Untouched (Write count) whole stopped marks = absurd stopped
+  ends-unread blocks size done within few left read flushed Untouched (Words fault) whole stopped marks = absurd stopped
 
   -- the next block did not run
   pub ends-unrun : (blocks : ℕ) (done : Done blocks) → blocks * block_jobs ≤ range.count → (left : Option (List ℕ)) (read flushed : Bool) (Untouched : Type 0) (fault : EngineFault)
@@ -164,16 +165,4 @@ ends-headless range start left taken read flushed Untouched (Line line fault) st
 )
 ends-headless range start left taken read flushed Untouched (Engine fault) stopped marks same = absurd stopped
 ends-headless range start left taken read flushed Untouched (Write count) stopped marks same = absurd stopped
-
--- the lines before the range can't be skipped
-pub ends-before : (range : JobRange) (start left taken : Option (List ℕ)) (read flushed : Bool) (Untouched : Type 0) (fault : PopulationFault) → SkipFault range.first fault → IsTrue read ↔ (fault ≡ Read) → Untouched
-    → Ends range (Err fault) (record { before = start; left = left; failed = read }) (record { before = taken; taken = taken; failed = false; flushed = flushed }) Untouched
-ends-before range start left taken read flushed Untouched Read stopped marks same = (marks.1 refl, refl, (0, same))
-ends-before range start left taken read flushed Untouched (Line line fault) stopped marks same = (
-  unset read (λ set. let no : Line line fault ≡ Read = marks.0 set in cc),
-  refl,
-  λ other. absurd (other stopped.1),
-  rw (before-range range line stopped.0) same,
-)
-ends-before range start left taken read flushed Untouched (Engine fault) stopped marks same = absurd stopped
-ends-before range start left taken read flushed Untouched (Write count) stopped marks same = absurd stopped
+ends-headless range start left taken read flushed Untouched (Words fault) stopped marks same = absurd stopped

@@ -17,7 +17,7 @@ use Rattle.zs_population.specs.Skipped.{Skipped}
 use Rattle.zs_population.specs.declared.range.JobRange.{JobRange}
 use Rattle.zs_population.specs.declared.fault.PopulationFault.{PopulationFault}
 use Rattle.zs_population.specs.declared.fault.PopulationFault.TheVariants.{Read, Line, Engine}
-use Rattle.zs_population.specs.declared.fault.PopulationFault.TheVariants.{Write}
+use Rattle.zs_population.specs.declared.fault.PopulationFault.TheVariants.{Write, Words}
 
 -- Some lines have this result. If the reader's bytes are known, they are its lines.
 abbrev pub AreLines : Option (List ℕ) → (List (List ℕ) → Type 0) → Type 0
@@ -69,6 +69,7 @@ Ends range (Err (Engine fault)) r w Untouched = (r.failed ≡ false) × (w.faile
 Ends range (Err (Write sent)) r w Untouched = (r.failed ≡ false) × (w.failed ≡ true)
     × ((plan : PlanRecord) × Begins range r.before plan × (sent ≤ length (report_of plan))
     × Appends w.before w.taken (take sent (report_of plan)))
+Ends range (Err (Words fault)) r w Untouched = ⊥
 
 -- How the run of the blocks ends after these bytes, of which the first line was taken as the head,
 -- and those before the range were skipped.

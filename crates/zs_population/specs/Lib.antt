@@ -2,6 +2,7 @@
 pub mod Population
 pub mod Ending
 pub mod Status
+pub mod Words
 -- What the bodies store: private contracts alone name these.
 pub mod Skipped
 pub mod Reads

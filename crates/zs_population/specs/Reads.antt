@@ -15,7 +15,7 @@ use Rattle.zs_lines.specs.declared.buffer.LineFault.TheVariants as unread
 use Rattle.zs_population.specs.declared.range.JobRange.{JobRange}
 use Rattle.zs_population.specs.declared.fault.PopulationFault.{PopulationFault}
 use Rattle.zs_population.specs.declared.fault.PopulationFault.TheVariants.{Read, Line, Engine}
-use Rattle.zs_population.specs.declared.fault.PopulationFault.TheVariants.{Write}
+use Rattle.zs_population.specs.declared.fault.PopulationFault.TheVariants.{Write, Words}
 
 -- the names of jobs
 abbrev pub names_of : List JobRecord → List (List ℕ)
@@ -66,6 +66,7 @@ BlockFault first size old known (Line line fault) =
     → BlockRefused first (k + 1) old known (record { line = line; fault = fault }))
 BlockFault first size old known (Engine fault) = ⊥
 BlockFault first size old known (Write sent) = ⊥
+BlockFault first size old known (Words fault) = ⊥
 
 -- why the head can't be read
 abbrev pub HeadFault : Option (List ℕ) → PopulationFault → Type 0
@@ -75,6 +76,7 @@ HeadFault old (Line line fault) =
     → (range : JobRange) → WasRefused range old (record { line = line; fault = fault }))
 HeadFault old (Engine fault) = ⊥
 HeadFault old (Write sent) = ⊥
+HeadFault old (Words fault) = ⊥
 
 -- why lines can't be skipped
 abbrev pub SkipFault : ℕ → PopulationFault → Type 0
@@ -82,3 +84,4 @@ SkipFault count Read = ⊤
 SkipFault count (Line line fault) = (line < count + 2) × (fault ≡ faults.Memory)
 SkipFault count (Engine fault) = ⊥
 SkipFault count (Write sent) = ⊥
+SkipFault count (Words fault) = ⊥

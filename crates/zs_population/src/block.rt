@@ -30,8 +30,8 @@ use zs_run::{
 /// The most jobs of a block: the most that a round may poll.
 pub(crate) const BLOCK: usize = MAX_TASKS as usize;
 
-// The most jobs of a population.
-const MAX_POPULATION: u64 = 1_000_000_000_000_000;
+/// The most jobs of a population.
+pub(crate) const MAX_POPULATION: u64 = 1_000_000_000_000_000;
 
 // The fault of a line that can't be read.
 fn line_fault(line: u64, fault: LineFault) -> PopulationFault

@@ -8,6 +8,17 @@ use thiserror::Error;
 use zs_engine::EngineFault;
 use zs_run::{PlanFault, RunFault};
 
+/// Why the words of a command line are wrong.
+#[derive(Clone, Copy, Debug, PartialEq, Eq, Error)]
+pub enum OptionFault {
+    /// There is no such option, or there are too many words.
+    #[error("unknown option; see --help")]
+    Unknown,
+    /// The value of `--jobs` is missing, or isn't a range of numbers up to 10^15.
+    #[error("--jobs needs a range of jobs, as 0..5000")]
+    Jobs,
+}
+
 /// Why the run of a population stopped. Only whole blocks were written, unless the writer failed.
 #[derive(Clone, Copy, Debug, PartialEq, Eq, Error)]
 pub enum PopulationFault {
@@ -32,14 +43,18 @@ pub enum PopulationFault {
         /// How many bytes went out, over all blocks.
         sent: u128,
     },
+    /// The words of the command line are wrong. Nothing was read or written.
+    #[error(transparent)]
+    Words(OptionFault),
 }
 
-/// The exit status of a program that ended by the fault: 2 for a rejected line, 3 if reading or
-/// writing failed, 4 without memory or a thread.
+/// The exit status of a program that ended by the fault: 2 for a rejected line or wrong words, 3 if
+/// reading or writing failed, 4 without memory or a thread.
 pub fn status(fault: &PopulationFault) -> u8
     ensures value { result ≡ status_of fault.now }
 {
     match fault {
+        PopulationFault::Words(_) => 2,
         PopulationFault::Read => 3,
         PopulationFault::Line { fault, .. } => zs_run::status(&RunFault::Plan(*fault)),
         PopulationFault::Engine(_) => 4,

@@ -14,9 +14,10 @@
 
 mod block;
 mod fault;
+mod program;
 mod range;
 mod running;
+mod words;
 
-pub use fault::{PopulationFault, exit_code, status};
-pub use range::JobRange;
-pub use running::run_population;
+pub use fault::{OptionFault, PopulationFault, exit_code, status};
+pub use program::run_words;

@@ -3,9 +3,9 @@
 /// Which jobs of a population are run: `count` of them from number `first` on, or those of them that
 /// there are.
 #[derive(Clone, Copy, Debug, PartialEq, Eq)]
-pub struct JobRange {
+pub(crate) struct JobRange {
     /// The number of the first one, from 0.
-    pub first: u64,
+    pub(crate) first: u64,
     /// How many they are, at most.
-    pub count: u64,
+    pub(crate) count: u64,
 }

@@ -66,7 +66,7 @@ fn run_blocks<T: Threads + Wait + Sync, G: Gate, R: Source, W: Drain>(
 ///
 /// Without memory the result is `Line` while a line is read, else `Engine`. The clauses on bytes
 /// hold if reader and writer expose theirs.
-pub fn run_population<T: Threads + Wait + Sync, G: Gate, R: Source, W: Drain>(
+pub(crate) fn run_population<T: Threads + Wait + Sync, G: Gate, R: Source, W: Drain>(
     rt: &T,
     alloc: Global,
     gate: &G,

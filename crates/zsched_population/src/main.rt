@@ -1,19 +1,37 @@
 //! Reads a population from standard input, first its document and then a job a line, runs it a
-//! block at a time, and writes its report to standard output.
+//! block at a time, and writes its report to standard output. `--jobs A..B` runs a range of jobs.
 //!
-//! A fault is printed to standard error. The exit status is 2 for a rejected line, 3 if reading
-//! or writing failed, 4 without memory or a thread.
+//! A fault is printed to standard error. The exit status is 2 for a rejected line or wrong words, 3
+//! if reading or writing failed, 4 without memory or a thread.
 #![tactic(auto)]
 
+use std::env;
 use std::process::ExitCode;
+use std::rt::Env;
 use zs_pool::OpenGate;
-use zs_population::{JobRange, exit_code, run_population};
+use zs_population::{OptionFault, PopulationFault, exit_code, run_words};
 use zs_run::Marked;
+
+// The words after the program's name, if they are text.
+fn words(rt: &(impl Env + AllocGlobal)) -> Option<Vec<String>> {
+    let words = env::args(rt).ok()?;
+    words.skip(1).collect(rt.alloc()).ok()
+}
 
 fn main(rt: HostRuntime) -> ExitCode {
     let mut reader = Marked::new(rt.stdin());
     let mut writer = Marked::new(rt.stdout());
-    let ended = run_population(&rt, rt.alloc(), &OpenGate, JobRange { first: 0, count: u64::MAX }, &mut reader, &mut writer);
+    let ended = match words(&rt) {
+        Some(words) => run_words(
+            &rt,
+            rt.alloc(),
+            &OpenGate,
+            words.as_slice(),
+            &mut reader,
+            &mut writer,
+        ),
+        None => Err(PopulationFault::Words(OptionFault::Unknown)),
+    };
     if let Err(fault) = &ended {
         // If standard error fails too, nothing more can be done.
         let _ = eprintln!(rt; "zsched-population: {fault}");

@@ -1,0 +1,94 @@
+//! The request that the words of a command line are.
+ghost use Rattle.std.specs.Prelude.{◌≡◌, ◌≤◌, IfOk, IfSome, map, string_bytes};
+ghost use Rattle.zs_population.specs.Population.{max_population};
+ghost use Rattle.zs_population.specs.Words.{HasFewBefore, after_dots, jobs_of, option_request, request_of};
+
+use crate::block::MAX_POPULATION;
+use crate::fault::OptionFault;
+use crate::range::JobRange;
+use zs_lines::{digits, number};
+
+/// What the program is to do.
+#[derive(Clone, Copy, Debug, PartialEq, Eq)]
+pub(crate) enum Request {
+    /// The text that says how the program is used.
+    Help,
+    /// The program's name and version.
+    Version,
+    /// The report of the jobs of a range.
+    Run(JobRange),
+}
+
+// The number that a text is after two dots.
+fn after_dots(text: &[u8]) -> Option<u64>
+    ensures value { result ≡ after_dots text.now }
+{
+    let (first, rest) = text.split_first()?;
+    let (second, rest) = rest.split_first()?;
+    if *first == b'.' && *second == b'.' {
+        number(rest)
+    } else {
+        None
+    }
+}
+
+// The jobs that a text is, as `5..20`.
+fn jobs(text: &[u8]) -> Option<JobRange>
+    ensures value { result ≡ jobs_of text.now }
+    ensures few { IfSome result (λ range. range.first ≤ max_population) }
+{
+    let (first, count) = digits(text)?;
+    if count == 0 {
+        return None;
+    }
+    let end = after_dots(&text[count..])?;
+    if first <= end && end <= MAX_POPULATION {
+        Some(JobRange {
+            first,
+            count: end - first,
+        })
+    } else {
+        None
+    }
+}
+
+// The request of an option, by its name and its value.
+#[tactic(auto, unfolding(crate::specs::Words::option_request))]
+fn option_request(name: &str, value: &str) -> Result<Request, OptionFault>
+    ensures value { result ≡ option_request name.now value.now }
+    ensures few { IfOk result HasFewBefore }
+{
+    if name == "--jobs" {
+        match jobs(value.as_bytes()) {
+            Some(range) => Ok(Request::Run(range)),
+            None => Err(OptionFault::Jobs),
+        }
+    } else if name == "--help" {
+        Ok(Request::Help)
+    } else if name == "--version" {
+        Ok(Request::Version)
+    } else {
+        Err(OptionFault::Unknown)
+    }
+}
+
+/// The request of the words after the program's name.
+pub(crate) fn request_of(words: &[String]) -> Result<Request, OptionFault>
+    ensures value { result ≡ request_of (map string_bytes words.now) }
+    ensures few { IfOk result HasFewBefore }
+{
+    let Some((name, rest)) = words.split_first() else {
+        return Ok(Request::Run(JobRange {
+            first: 0,
+            count: u64::MAX,
+        }));
+    };
+    let Some((value, rest)) = rest.split_first() else {
+        return option_request(name.as_str(), "");
+    };
+    if rest.is_empty() {
+        option_request(name.as_str(), value.as_str())
+    } else {
+        Err(OptionFault::Unknown)
+    }
+}
