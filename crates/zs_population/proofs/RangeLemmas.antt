@@ -135,21 +135,21 @@ module _ (range : JobRange) (start after ahead : Option (List ℕ)) (first : Lis
       let many : length lines ≡ length jobs = jobs-length range.first [] lines jobs are in
       elim (cases_lt (length jobs) range.count) [
         | inl short ↦ (
-          let ended = ended-lines ahead left lines (all-read ahead left buffer lines reads (end short)) in
-          let all = all-lines range.first start after ahead first lines took skips ended.0 in
-          let whole : lines_in range all.0 ≡ lines = ap (take range.count) all.1 ∙ take_all range.count lines (omega (arith, many, within)) in (
-            (first ∷ all.0, populated range first all.0 lines head jobs is whole are, all.2),
-            λ less. carried (left ≡ Some []) range.first start after ahead first took skips ended.1,
-          )
-        )
+            let ended = ended-lines ahead left lines (all-read ahead left buffer lines reads (end short)) in
+            let all = all-lines range.first start after ahead first lines took skips ended.0 in
+            let whole : lines_in range all.0 ≡ lines = ap (take range.count) all.1 ∙ take_all range.count lines (omega (arith, many, within)) in (
+              (first ∷ all.0, populated range first all.0 lines head jobs is whole are, all.2),
+              λ less. carried (left ≡ Some []) range.first start after ahead first took skips ended.1,
+            )
+            )
         | inr full ↦ (
-          let rest = rest-of ahead lines (begins ahead (prepend_known buffer left) lines reads) in
-          let all = all-lines range.first start after ahead first (lines ++ rest.0) took skips rest.1 in
-          let exact : lines_in range all.0 ≡ lines = ap (take range.count) all.1 ∙ take_at lines rest.0 range.count (omega (arith, many, within, full)) in (
-            (first ∷ all.0, populated range first all.0 lines head jobs is exact are, all.2),
-            λ less. absurd (omega (arith, less, full)),
-          )
-        )
+            let rest = rest-of ahead lines (begins ahead (prepend_known buffer left) lines reads) in
+            let all = all-lines range.first start after ahead first (lines ++ rest.0) took skips rest.1 in
+            let exact : lines_in range all.0 ≡ lines = ap (take range.count) all.1 ∙ take_at lines rest.0 range.count (omega (arith, many, within, full)) in (
+              (first ∷ all.0, populated range first all.0 lines head jobs is exact are, all.2),
+              λ less. absurd (omega (arith, less, full)),
+            )
+            )
       ]
 
   -- a line of the range is no job

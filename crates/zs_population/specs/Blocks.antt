@@ -18,7 +18,8 @@ IsWhole zero flushed Untouched = Untouched
 IsWhole (suc n) flushed Untouched = flushed ≡ true
 
 -- Some blocks were read, run, written and counted. `ahead` are the bytes that the reader and the
--- buffer had before and have now, `first` is the number of their first job, `before` and `taken` those of the writer.
+-- buffer had before and have now, `before` and `taken` those of the writer. `first` is the number
+-- of the first job.
 pub record IsDone (clock : Ticks) (first : ℕ) (ahead ahead_now : Option (List ℕ))
     (names : BTreeSet (String Global)) (blocks polls sent : ℕ)
     (before taken : Option (List ℕ)) : Type 0 where

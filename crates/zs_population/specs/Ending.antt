@@ -1,7 +1,7 @@
 -- How the run of a population ends: for success and each fault, what was read, what was written,
 -- and which of the two failed.
-use Rattle.std.specs.Prelude.{◌≡◌, ◌≢◌, ◌≤◌, ◌<◌, ℕ, zero, suc, ◌+◌, ◌*◌, ◌-◌, ◌/◌, List, [], ◌∷◌, ◌++◌}
-use Rattle.std.specs.Prelude.{length, take, true, false, Option, Some, Result, Ok, Err, IfSome}
+use Rattle.std.specs.Prelude.{◌≡◌, ◌≢◌, ◌≤◌, ◌<◌, ℕ, zero, suc, ◌+◌, ◌*◌, ◌-◌, ◌/◌, List, []}
+use Rattle.std.specs.Prelude.{◌∷◌, length, take, true, false, Option, Some, Result, Ok, Err, IfSome}
 use Rattle.std.specs.Io.KnownBytes.{Appends}
 use Rattle.zs_run.specs.Head.{head_of}
 use Rattle.zs_run.specs.HeadView.{head_record}
@@ -9,12 +9,12 @@ use Rattle.zs_run.specs.Headline.{Reading, Writing}
 use Rattle.zs_run.specs.Plan.{PlanRecord}
 use Rattle.zs_run.specs.PlanReport.{jobs_text, report_of}
 use Rattle.zs_run.specs.declared.plan_fault.PlanFault.TheVariants as faults
-use Rattle.zs_run.specs.declared.head.Head.{Head}
 use Rattle.zs_lines.specs.Buffers.{Took}
 use Rattle.zs_lines.specs.Lines.{lines_of}
 use Rattle.zs_population.specs.Population.{RejectedLine, block_jobs, population_of}
 use Rattle.zs_population.specs.Skipped.{Skipped}
 use Rattle.zs_population.specs.declared.range.JobRange.{JobRange}
+use Rattle.zs_population.specs.declared.running.Part.{Part}
 use Rattle.zs_population.specs.declared.fault.PopulationFault.{PopulationFault}
 use Rattle.zs_population.specs.declared.fault.PopulationFault.TheVariants.{Read, Line, Engine}
 use Rattle.zs_population.specs.declared.fault.PopulationFault.TheVariants.{Write, Words}
@@ -34,10 +34,14 @@ abbrev pub WasRefused : JobRange → Option (List ℕ) → RejectedLine → Type
 WasRefused range before refusal =
     AreLines before (λ lines. population_of range lines ≡ Err refusal)
 
--- The lines have this population, up to the last of its jobs. They are the first of the range.
+-- so many jobs from the first one of a range on
+abbrev pub first_of : JobRange → ℕ → JobRange
+first_of range count = record { first = range.first; count = count }
+
+-- The lines have this population of the first jobs of the range.
 abbrev pub Begins : JobRange → Option (List ℕ) → PlanRecord → Type 0
 Begins range before plan = let count = length plan.jobs in (count ≤ range.count)
-    × AreLines before (λ lines. population_of (record { first = range.first; count = count }) lines ≡ Ok plan)
+    × AreLines before (λ lines. population_of (first_of range count) lines ≡ Ok plan)
 
 -- The reports of the jobs of n whole blocks were written and flushed, and nothing else.
 -- `Untouched` says that the writer is unchanged.
@@ -73,9 +77,10 @@ Ends range (Err (Words fault)) r w Untouched = ⊥
 
 -- How the run of the blocks ends after these bytes, of which the first line was taken as the head,
 -- and those before the range were skipped.
-abbrev pub BlocksEnd : Result (Unit {0}) PopulationFault → Head → JobRange → Reading → Writing
-    → Type 0 → Type 0
-BlocksEnd result head range r w Untouched =
+abbrev pub BlocksEnd : Result (Unit {0}) PopulationFault → Part → Reading → Writing → Type 0
+    → Type 0
+BlocksEnd result part r w Untouched =
     (before after : Option (List ℕ)) (first : List ℕ) → Took before after (first ∷ [])
-    → Skipped range.first after r.before → head_of first ≡ Ok (head_record head)
-    → Ends range result (record { before = before; left = r.left; failed = r.failed }) w Untouched
+    → Skipped part.range.first after r.before → head_of first ≡ Ok (head_record part.head)
+    → let all = record { before = before; left = r.left; failed = r.failed } in
+    Ends part.range result all w Untouched

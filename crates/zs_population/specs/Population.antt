@@ -1,7 +1,8 @@
 -- The population of some lines, or the first line that is rejected. The first line is the
 -- document of a plan without jobs, each other line a job. A population is a plan that may have
 -- more jobs. It has the jobs of a range; the other lines of jobs aren't looked at.
-use Rattle.std.specs.Prelude.{ℕ, ◌+◌, List, [], ◌∷◌, ◌++◌, take, drop, nat_lt, None, Result, Ok, Err}
+use Rattle.std.specs.Prelude.{ℕ, ◌+◌, List, [], ◌∷◌, ◌++◌, take, drop, nat_lt, None}
+use Rattle.std.specs.Prelude.{Result, Ok, Err}
 use Rattle.zs_drive.specs.Values.{JobRecord}
 use Rattle.zs_pool.specs.Limits.{max_tasks}
 use Rattle.zs_run.specs.declared.plan_fault.PlanFault.{PlanFault}

@@ -5,7 +5,8 @@ use Rattle.zs_population.specs.declared.fault.PopulationFault.{PopulationFault}
 use Rattle.zs_population.specs.declared.fault.PopulationFault.TheVariants.{Read, Line, Engine}
 use Rattle.zs_population.specs.declared.fault.PopulationFault.TheVariants.{Write, Words}
 
--- 2 for a rejected line or wrong words, 3 if reading or writing failed, 4 without memory or a thread
+-- 2 for a rejected line or wrong words, 3 if reading or writing failed, 4 without memory or a
+-- thread
 abbrev pub status_of : PopulationFault → ℕ
 status_of Read = 3
 status_of (Line line fault) = plan_status_of fault

@@ -1,6 +1,6 @@
 -- The request that the words of a command line are, and how the program ends by it.
 use Rattle.std.specs.Prelude.{◌≡◌, ◌≤◌, ℕ, ◌-◌, List, [], ◌∷◌, length, take, drop, codes, ⊤}
-use Rattle.std.specs.Prelude.{bytes_eq, nat_le, nat_lt, ◌==◌, ◌&&◌, true, false}
+use Rattle.std.specs.Prelude.{bytes_eq, nat_le, ◌==◌, ◌&&◌, true, false}
 use Rattle.std.specs.Prelude.{if◌then◌else◌, Option, Some, None, option_and_then, Result, Ok, Err}
 use Rattle.std.specs.Io.KnownBytes.{Appends}
 use Rattle.zs_term.specs.Saturating.{max_moment}

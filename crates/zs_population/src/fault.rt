@@ -11,7 +11,7 @@ use zs_run::{PlanFault, RunFault};
 /// Why the words of a command line are wrong.
 #[derive(Clone, Copy, Debug, PartialEq, Eq, Error)]
 pub enum OptionFault {
-    /// There is no such option, or there are too many words.
+    /// There is no such option, or a word too many.
     #[error("unknown option; see --help")]
     Unknown,
     /// The value of `--jobs` is missing, or isn't a range of numbers up to 10^15.

@@ -4,9 +4,7 @@ ghost use Rattle.zs_lines.specs.Streams.{ByWriter, reading, with_buffer};
 ghost use Rattle.zs_population.specs.Ending.{BlocksEnd, Ends};
 ghost use Rattle.zs_population.specs.Population.{max_population};
 
-use crate::block::{
-    BLOCK, block_size, read_block, read_first, run_block, skip_lines, write_block,
-};
+use crate::block::{BLOCK, block_size, read_block, read_first, run_block, skip_lines, write_block};
 use crate::fault::PopulationFault;
 use crate::range::JobRange;
 use std::alloc::Global;
@@ -38,7 +36,7 @@ fn run_blocks<T: Threads + Wait + Sync, G: Gate, R: Source, W: Drain>(
     requires writer_clear { W.mark writer.old ≡ false }
     requires few { part.now.range.first ≤ max_population }
     ensures ends { ByWriter W.contents W.mark W.flushed writer.old writer.new (BlocksEnd result
-        part.now.head part.now.range (with_buffer buffer.old (reading R.remaining R.mark reader.old reader.new))) }
+        part.now (with_buffer buffer.old (reading R.remaining R.mark reader.old reader.new))) }
 {
     let mut names = BTreeSet::new(alloc);
     let mut polls = 0;

@@ -6,23 +6,31 @@
 #![tactic(auto)]
 
 use std::env;
+use std::io::ErrorKind;
 use std::process::ExitCode;
 use std::rt::Env;
 use zs_pool::OpenGate;
 use zs_population::{OptionFault, PopulationFault, exit_code, run_words};
-use zs_run::Marked;
+use zs_run::{Marked, PlanFault};
 
-// The words after the program's name, if they are text.
-fn words(rt: &(impl Env + AllocGlobal)) -> Option<Vec<String>> {
-    let words = env::args(rt).ok()?;
-    words.skip(1).collect(rt.alloc()).ok()
+// The words after the program's name. Words that aren't text are no options.
+fn words(rt: &(impl Env + AllocGlobal)) -> Result<Vec<String>, PopulationFault> {
+    let memory = PopulationFault::Line {
+        line: 1,
+        fault: PlanFault::Memory,
+    };
+    match env::args(rt) {
+        Ok(words) => words.skip(1).collect(rt.alloc()).map_err(|_| memory),
+        Err(fault) if fault.kind() == ErrorKind::OutOfMemory => Err(memory),
+        Err(_) => Err(PopulationFault::Words(OptionFault::Unknown)),
+    }
 }
 
 fn main(rt: HostRuntime) -> ExitCode {
     let mut reader = Marked::new(rt.stdin());
     let mut writer = Marked::new(rt.stdout());
     let ended = match words(&rt) {
-        Some(words) => run_words(
+        Ok(words) => run_words(
             &rt,
             rt.alloc(),
             &OpenGate,
@@ -30,7 +38,7 @@ fn main(rt: HostRuntime) -> ExitCode {
             &mut reader,
             &mut writer,
         ),
-        None => Err(PopulationFault::Words(OptionFault::Unknown)),
+        Err(fault) => Err(fault),
     };
     if let Err(fault) = &ended {
         // If standard error fails too, nothing more can be done.

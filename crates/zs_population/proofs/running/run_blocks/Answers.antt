@@ -38,7 +38,9 @@ returns-in_err-jobs g c =
       ends = λ before after first took skips is. rw (p.1, p.2, at.writer)
           (ends-unread c.args.part.now.range before after (prepend_known c.args.buffer.now (g.R.Source.remaining c.args.reader.now)) (prepend_known c.loop-names.buffer (g.R.Source.remaining c.loop-names.reader))
           first (head_record c.args.part.now.head) c.loop-names.names c.loop-names.polls c.loop-names.sent (g.W.Drain.contents c.args.writer.now) (g.W.Drain.contents c.loop-names.writer) took skips is
-          c.loop-names.blocks c.block_size-size.result at.done c.block_size-size.ensures.within c.block_size-size.ensures.block _ _ _ _ c.in_err-jobs.field-0.0 at.whole c.in_err-jobs.ensures.fault (as-fault _ _ c.in_err-jobs.ensures.marks));
+          c.loop-names.blocks c.block_size-size.result at.done c.block_size-size.ensures.within c.block_size-size.ensures.block
+          (g.R.Source.remaining c.read_block.new.reader) (g.R.Source.mark c.read_block.new.reader) (g.W.Drain.flushed c.loop-names.writer) (c.loop-names.writer ≡ c.args.writer.now)
+          c.in_err-jobs.field-0.0 at.whole c.in_err-jobs.ensures.fault (as-fault _ _ c.in_err-jobs.ensures.marks));
     }
 
 -- it did not run

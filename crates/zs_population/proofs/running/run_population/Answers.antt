@@ -1,6 +1,5 @@
 use Rattle.std.proofs.Common.{◌≡◌, ℕ, List, Option, refl}
 use Rattle.std.proofs.lemmas.Result.{err_from_is_err_and}
-use Rattle.std.specs.Io.KnownBytes.{prepend_known}
 use Rattle.zs_population.specs.Reads.{HeadFault}
 use Rattle.zs_population.proofs.Endings.{as-fault, ends-headless, prepend-none}
 use Rattle.zs_population.proofs.running.run_population.Goals as goal
