@@ -82,5 +82,5 @@ abbrev pub BlocksEnd : Result (Unit {0}) PopulationFault → Part → Reading �
 BlocksEnd result part r w Untouched =
     (before after : Option (List ℕ)) (first : List ℕ) → Took before after (first ∷ [])
     → Skipped part.range.first after r.before → head_of first ≡ Ok (head_record part.head)
-    → let all = record { before = before; left = r.left; failed = r.failed } in
-    Ends part.range result all w Untouched
+    → Ends part.range result (record { before = before; left = r.left; failed = r.failed }) w
+    Untouched

@@ -1,14 +1,14 @@
 //! A population of jobs from its lines to the bytes of its report, a block of jobs at a time.
 //!
-//! At success the bytes that `run_population` writes are `report_of` the population that was
-//! read, as if it were one plan (`specs/Population.antt`, `specs/Ending.antt`). A rejected line
-//! is reported by its number, after the blocks before it were written. Memory is needed for one
-//! block and all names.
+//! `run_words` does what the words of a command line say. At success the bytes that it writes for a
+//! range of jobs, or for all, are their `report_of`, as if they were one plan
+//! (`specs/Population.antt`, `specs/Ending.antt`). A rejected line is reported by its number, after
+//! the blocks before it were written. Memory is needed for one block and all names.
 //!
 //! ```rust
 //! let mut reader = Marked::new(lines);
 //! let mut writer = Marked::new(&mut text);
-//! run_population(&rt, rt.alloc(), &OpenGate, &mut reader, &mut writer)?;
+//! run_words(&rt, rt.alloc(), &OpenGate, words, &mut reader, &mut writer)?;
 //! ```
 #![tactic(auto)]
 
