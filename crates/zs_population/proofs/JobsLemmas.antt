@@ -112,7 +112,7 @@ abbrev jobs_in : Jobs → List JobRecord
 jobs_in (Ok jobs) = jobs
 jobs_in (Err e) = []
 
--- there are as many jobs as lines
+-- each line has a job
 pub jobs-length : (number : ℕ) (names : List (List ℕ)) (xs : List (List ℕ)) (jobs : List JobRecord) → jobs_at number names xs ≡ Ok jobs → length xs ≡ length jobs
 unfolding jobs_at
 jobs-length number names [] jobs are = let none : Ok [] ≡ Ok jobs = are in ap (λ r. length (jobs_in r)) none

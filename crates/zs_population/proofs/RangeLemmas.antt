@@ -84,7 +84,7 @@ in-range range all lines rest is within =
     let long : range.count ≡ length lines + (range.count - length lines) = omega (arith, within) in
     ap (take range.count) is ∙ ap (λ n. take n (lines ++ rest)) long ∙ take-append-add lines rest (range.count - length lines)
 
--- what was told of the bytes after the lines that were skipped
+-- what holds of the bytes after the lines that were skipped
 carried : (P : Type 0) (count : ℕ) (start after ahead : Option (List ℕ)) (first : List ℕ) → Took start after (first ∷ []) → Skipped count after ahead → IfSome ahead (λ xs. P) → IfSome start (λ xs. P)
 carried P count None after ahead first took skips is = tt
 carried P count (Some xs) None ahead first took skips is = absurd took

@@ -24,7 +24,7 @@ abbrev pub AreLines : Option (List ℕ) → (List (List ℕ) → Type 0) → Typ
 AreLines before HasResult = (lines : List (List ℕ)) × HasResult lines
     × IfSome before (λ known. lines_of known ≡ lines)
 
--- The lines have this population. If it has fewer jobs than the range, nothing is left to read.
+-- The lines have this population. If it has fewer jobs than the range, nothing remains to read.
 abbrev pub IsPopulation : JobRange → Reading → PlanRecord → Type 0
 IsPopulation range r plan = AreLines r.before (λ lines. population_of range lines ≡ Ok plan)
     × (length plan.jobs < range.count → IfSome r.before (λ known. r.left ≡ Some []))
@@ -34,9 +34,9 @@ abbrev pub WasRefused : JobRange → Option (List ℕ) → RejectedLine → Type
 WasRefused range before refusal =
     AreLines before (λ lines. population_of range lines ≡ Err refusal)
 
--- so many jobs from the first one of a range on
+-- n jobs from the first one of a range on
 abbrev pub first_of : JobRange → ℕ → JobRange
-first_of range count = record { first = range.first; count = count }
+first_of range n = record { first = range.first; count = n }
 
 -- The lines have this population of the first jobs of the range.
 abbrev pub Begins : JobRange → Option (List ℕ) → PlanRecord → Type 0
@@ -51,9 +51,9 @@ WroteBlocks range r w Untouched (suc n) =
     (plan : PlanRecord) × Begins range r.before plan × (length plan.jobs ≡ suc n * block_jobs)
     × Appends w.before w.taken (jobs_text plan.clock plan.jobs) × (w.flushed ≡ true)
 
--- Writing failed. A part of a text was written, after `before` bytes of other texts.
+-- Writing failed. A part of a text was written, after n bytes of others.
 abbrev pub SentPart : ℕ → List ℕ → Option (List ℕ) → Option (List ℕ) → PopulationFault → Type 0
-SentPart before text old new fault = (sent : ℕ) × (fault ≡ Write (before + sent))
+SentPart n text old new fault = (sent : ℕ) × (fault ≡ Write (n + sent))
     × (sent ≤ length text) × Appends old new (take sent text)
 
 -- The table: how a run ends, by its result.

@@ -61,7 +61,7 @@ request_of (name ∷ []) = option_request name []
 request_of (name ∷ (value ∷ [])) = option_request name value
 request_of (name ∷ (value ∷ (word ∷ words))) = Err Unknown
 
--- a population has so many jobs that it may have the first one of a range
+-- the first job of a range is one that a population may have, or its end
 abbrev pub HasFewBefore : Request → Type 0
 HasFewBefore Help = ⊤
 HasFewBefore Version = ⊤

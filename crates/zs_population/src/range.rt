@@ -1,7 +1,7 @@
 //! Which jobs of a population are run.
 
-/// Which jobs of a population are run: `count` of them from number `first` on, or those of them that
-/// there are.
+/// Which jobs of a population are run: `count` of them from number `first` on, as far as there are
+/// any.
 #[derive(Clone, Copy, Debug, PartialEq, Eq)]
 pub(crate) struct JobRange {
     /// The number of the first one, from 0.

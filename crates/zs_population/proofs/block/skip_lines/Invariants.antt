@@ -3,7 +3,7 @@ use Rattle.std.specs.Io.KnownBytes.{prepend_known}
 use Rattle.zs_population.specs.Skipped.{Skipped}
 use Rattle.zs_population.proofs.block.skip_lines.Given as goal
 
--- so many lines were skipped
+-- the lines so far were skipped
 abbrev pub invariant-loop-number : goal.invariant-loop-number
 invariant-loop-number g l = (l.number ≤ l.count) × (g.R.Source.mark l.reader ≡ false)
     × Skipped l.number (prepend_known l.fn.buffer (g.R.Source.remaining l.fn.reader)) (prepend_known l.buffer (g.R.Source.remaining l.reader))
