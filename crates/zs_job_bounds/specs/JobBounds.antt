@@ -8,12 +8,13 @@ use Rattle.zs_step.specs.declared.decision.Decision.TheVariants.{Stop, Next}
 use Rattle.zs_step.specs.History.{History}
 use Rattle.zs_step.specs.Answer.{Answer, answer, answer_of}
 use Rattle.zs_drive.specs.declared.record.Ending.{Ending}
+use Rattle.zs_drive.specs.Clocks as clocks
 use Rattle.zs_drive.specs.Clocks.{first_tick_from, AreTicks}
 use Rattle.zs_drive.specs.Values.{JobRecord, AttemptedValue, EndedValue}
 use Rattle.zs_drive.specs.Timeline.{timeline_of}
 use Rattle.zs_bounds.specs.declared.durations.Durations.{Durations}
 use Rattle.zs_bounds.specs.declared.told.Bounds.{Bounds}
-use Rattle.zs_bounds.specs.Driven.{any_duration, shortest, IsDriven}
+use Rattle.zs_bounds.specs.Driven.{any_duration, shortest, max_tick, IsDriven}
 use Rattle.zs_bounds.specs.Bounds.{wait_of, Promises}
 use Rattle.zs_bounds.specs.BoundsOf.{bounds_of}
 use Rattle.zs_job_bounds.specs.Histories.{HasInputs, IsEndAfter, history_at, IsHistoryOf}
@@ -22,6 +23,10 @@ use Rattle.zs_job_bounds.specs.Histories.{HasInputs, IsEndAfter, history_at, IsH
 abbrev pub OnEachClock : (JobRecord → List ℕ → Type 0) → Type 0
 OnEachClock Law = (job : JobRecord) (ticks : List ℕ) → IsScript job.script
     → HasInputs job.script → AreTicks ticks → Law job ticks
+
+-- The greatest moment of a driver is that of a job.
+abbrev pub SameLimit : Type 0
+SameLimit = max_tick ≡ clocks.max_tick
 
 -- What a step at an end returns is the schedule's result on the history there.
 abbrev pub StepsOnHistories : JobRecord → List ℕ → Type 0

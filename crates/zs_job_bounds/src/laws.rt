@@ -1,5 +1,5 @@
 //! Laws that join the bounds of schedules to jobs, for every job and every clock.
-ghost use Rattle.zs_job_bounds.specs.JobBounds.{OnEachClock, StepsOnHistories, TakesAnyDuration, ForDurations, HistoriesAreDriven, PromisedBoundsHold, ComputedBoundsHold, PromisedRunHolds, ComputedRunHolds};
+ghost use Rattle.zs_job_bounds.specs.JobBounds.{OnEachClock, SameLimit, StepsOnHistories, TakesAnyDuration, ForDurations, HistoriesAreDriven, PromisedBoundsHold, ComputedBoundsHold, PromisedRunHolds, ComputedRunHolds};
 ghost use Rattle.zs_job_bounds.specs.PlanBounds.{OfEachPlan, ScriptHasInputs, TakesAnyInPlan, EveryMsTicks, InReport, PromisedInReport, ComputedInReport, PromisedRunInReport, ComputedRunInReport};
 
 /// Each history of a job's timeline is one that a driver can make with the job's schedule, if its
@@ -10,6 +10,8 @@ pub fn histories_are_driven()
     ensures driven { OnEachClock (ForDurations HistoriesAreDriven) }
     // So the laws with durations hold for every job, with 1 millisecond or more.
     ensures any { OnEachClock TakesAnyDuration }
+    // Jobs and drivers have one greatest moment.
+    ensures limit { SameLimit }
 {}
 
 /// A job's attempts are within the bounds of its schedule, whatever its mode, its start, its script
