@@ -5,7 +5,7 @@ use Rattle.zs_step.specs.Compiled.{StandsFor}
 use Rattle.zs_drive.specs.Clocks.{RisesFrom, AllBefore}
 use Rattle.zs_drive.specs.Values.{JobRecord}
 use Rattle.zs_drive.specs.declared.progress.Phase.TheVariants.{Waiting}
-use Rattle.zs_drive.specs.Timeline.{Timeline, waiting, timeline_of, from, poll_moments}
+use Rattle.zs_drive.specs.Timeline.{Timeline, wait_until, timeline_of, from, poll_moments}
 use Rattle.zs_drive.specs.Recorded.{AllContinued, IsOnTimeline}
 use Rattle.zs_drive.specs.declared.progress.Progress.{Progress}
 use Rattle.zs_drive.specs.Progress.{IsProgress, HasState, job_in, moments_in, attempts_of}
@@ -27,7 +27,7 @@ unfolding poll_moments
 moments-none log is = log-moments log [] is
 
 -- so a new task has no attempts
-timeline-none : (p : Progress) → IsLog p.log [] → timeline_of (job_in p) (moments_in p) ≡ waiting p.start
+timeline-none : (p : Progress) → IsLog p.log [] → timeline_of (job_in p) (moments_in p) ≡ wait_until p.start
 unfolding timeline_of from
 timeline-none p is = ap (timeline_of (job_in p)) (moments-none p.log is)
 

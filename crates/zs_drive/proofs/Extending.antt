@@ -10,7 +10,7 @@ use Rattle.zs_step.specs.declared.decision.Decision.TheVariants.{Stop, Next}
 use Rattle.zs_drive.specs.declared.record.Ending.{Ending}
 use Rattle.zs_drive.specs.Clocks.{first_tick_from, AllBefore}
 use Rattle.zs_drive.specs.Values.{JobRecord, AttemptedValue, EndedValue}
-use Rattle.zs_drive.specs.Timeline.{Timeline, number_of, ending_by_outcome, waiting, running, before, beat_after, by_outcome, timeline_of}
+use Rattle.zs_drive.specs.Timeline.{Timeline, number_of, ending_by_outcome, wait_until, run_from, before, beat_after, by_outcome, timeline_of}
 use Rattle.zs_drive.proofs.Ticks.{lt_cases, first_tick_from-some, first_tick_from-none, tick_one-late, tick_one-at, first_tick_from-past}
 pub use Rattle.zs_drive.proofs.Ticks.{beat-takes, saturated-after}
 use Rattle.zs_drive.proofs.Moments.{AllBefore-append, AllBefore-later}
@@ -22,12 +22,12 @@ use Rattle.zs_drive.proofs.Ruling.{timeline_of-only}
 module _ (job : JobRecord) (c : ℕ) where
   -- what a tick at c does to a job that is due at x after history h
   unfoldable pub resume : History → ℕ → Timeline
-  resume h x = if nat_lt c x then waiting x else running c (saturated (c + (beat_after job h).ms))
+  resume h x = if nat_lt c x then wait_until x else run_from c (saturated (c + (beat_after job h).ms))
 
   -- what it does to a job whose attempt is due to end at w
   unfoldable pub close : History → ℕ → ℕ → Timeline
   close h s w =
-      if nat_lt c w then running s w
+      if nat_lt c w then run_from s w
       else (let outcome = (beat_after job h).outcome in by_outcome job resume h s c outcome (ending_by_outcome job.mode outcome))
 
   unfoldable pub extend_last : History → ℕ → Option ℕ → Option Ending → Timeline
@@ -48,11 +48,11 @@ module _ (job : JobRecord) (c : ℕ) where
   extended h timeline = extend h timeline.attempts timeline.due timeline.ending
 
   -- what a tick does to a job that is due by then, and to one that is due later
-  pub resume-soon : (h : History) (x : ℕ) → x ≤ c → resume h x ≡ running c (saturated (c + (beat_after job h).ms))
+  pub resume-soon : (h : History) (x : ℕ) → x ≤ c → resume h x ≡ run_from c (saturated (c + (beat_after job h).ms))
   unfolding resume
   resume-soon h x soon = let test : nat_lt c x ≡ false = grind (arith, nat_tests) in rw test refl
 
-  pub resume-late : (h : History) (x : ℕ) → c < x → resume h x ≡ waiting x
+  pub resume-late : (h : History) (x : ℕ) → c < x → resume h x ≡ wait_until x
   unfolding resume
   resume-late h x late = let test : nat_lt c x ≡ true = grind (arith, nat_tests) in rw test refl
 
@@ -61,7 +61,7 @@ module _ (job : JobRecord) (c : ℕ) where
   unfolding close
   close-soon h s w soon = let test : nat_lt c w ≡ false = grind (arith, nat_tests) in rw test refl
 
-  pub close-late : (h : History) (s w : ℕ) → c < w → close h s w ≡ running s w
+  pub close-late : (h : History) (s w : ℕ) → c < w → close h s w ≡ run_from s w
   unfolding close
   close-late h s w late = let test : nat_lt c w ≡ true = grind (arith, nat_tests) in rw test refl
 

@@ -30,12 +30,12 @@ ended_attempt s e outcome step =
     record { begun = s; ended = Some (record { at = e; outcome = outcome; step = step }) }
 
 -- no attempt yet; x is the due moment
-abbrev pub waiting : ℕ → Timeline
-waiting x = record { attempts = []; due = Some x; ending = None }
+abbrev pub wait_until : ℕ → Timeline
+wait_until x = record { attempts = []; due = Some x; ending = None }
 
 -- an attempt that began at s is running; w, its end, is the due moment
-abbrev pub running : ℕ → ℕ → Timeline
-running s w =
+abbrev pub run_from : ℕ → ℕ → Timeline
+run_from s w =
     record { attempts = record { begun = s; ended = None } ∷ []; due = Some w; ending = None }
 
 -- the last attempt, with the ending
@@ -76,20 +76,20 @@ module _ (job : JobRecord) where
 
   -- the attempt after history h is due to end at w; the option is the tick at or after w
   unfoldable pub from_wait : (History → ℕ → Timeline) → History → ℕ → ℕ → Option ℕ → Timeline
-  from_wait rest h s w None = running s w
+  from_wait rest h s w None = run_from s w
   from_wait rest h s w (Some e) =
       let outcome = (beat_after h).outcome in
       by_outcome rest h s e outcome (ending_by_outcome job.mode outcome)
 
   -- the attempt after history h is due to begin at x; the option is the tick at or after x
   unfoldable pub from_begin : (History → ℕ → Timeline) → List ℕ → History → ℕ → Option ℕ → Timeline
-  from_begin rest ticks h x None = waiting x
+  from_begin rest ticks h x None = wait_until x
   from_begin rest ticks h x (Some s) =
       let w = saturated (s + (beat_after h).ms) in from_wait rest h s w (first_tick_from ticks w)
 
   -- the timeline from the attempt after history h on, due at x, with at most n attempts
   unfoldable pub from : List ℕ → ℕ → History → ℕ → Timeline
-  from ticks zero h x = waiting x
+  from ticks zero h x = wait_until x
   from ticks (suc n) h x = from_begin (from ticks n) ticks h x (first_tick_from ticks x)
 
   -- The timeline of the job on a clock. At most one attempt begins at each tick, so the bound loses

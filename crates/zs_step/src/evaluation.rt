@@ -13,9 +13,10 @@ ghost use Rattle.zs_step.specs.Evaluation.{Gives, GivesAnswer, IsDoneFrom, IsRes
 
 use crate::decision::Decision;
 use crate::fault::StepFault;
+use crate::leaf::window_end;
 use crate::leaves::{
     exponential_delay, fibonacci_delay, first_moment, fixed_run, last_input, last_moment,
-    linear_delay, steps_before, window_end,
+    linear_delay, steps_before,
 };
 use std::alloc::{AllocError, Global};
 use zs_term::{
@@ -37,23 +38,23 @@ fn evaluate(alloc: Global, term: &Term, history: Pairs<'_>) -> Result<Answer, Al
 {
     let now = last_moment(history);
     match term {
-        Term::Forever => Ok(count_answer(history, Decision::Next(now))),
+        Term::Forever => Ok(return_count(history, Decision::Next(now))),
         Term::Recurs(k) => {
             let again = steps_before(history) < *k;
-            Ok(count_answer(history, Decision::Next(now).only_if(again)))
+            Ok(return_count(history, Decision::Next(now).only_if(again)))
         }
-        Term::Spaced(delay) => Ok(count_answer(history, Decision::after(now, *delay))),
+        Term::Spaced(delay) => Ok(return_count(history, Decision::after(now, *delay))),
         Term::Fixed(period) => {
             let run = fixed_run(*period, history);
-            Ok(count_answer(history, Decision::Next(run)))
+            Ok(return_count(history, Decision::Next(run)))
         }
         Term::Windowed(period) => {
             let end = window_end(*period, first_moment(history), now);
-            Ok(count_answer(history, Decision::Next(end)))
+            Ok(return_count(history, Decision::Next(end)))
         }
-        Term::Exponential(b, f) => Ok(wait_answer(history, exponential_delay(*b, *f, history))),
-        Term::Fibonacci(one) => Ok(wait_answer(history, fibonacci_delay(*one, history))),
-        Term::Linear(unit) => Ok(wait_answer(history, linear_delay(*unit, history))),
+        Term::Exponential(b, f) => Ok(return_delay(history, exponential_delay(*b, *f, history))),
+        Term::Fibonacci(one) => Ok(return_delay(history, fibonacci_delay(*one, history))),
+        Term::Linear(unit) => Ok(return_delay(history, linear_delay(*unit, history))),
         Term::Identity => Ok((Out::Num(last_input(history)), Decision::Next(now))),
         Term::Elapsed => {
             let time = now.saturating_sub(first_moment(history));
@@ -61,11 +62,11 @@ fn evaluate(alloc: Global, term: &Term, history: Pairs<'_>) -> Result<Answer, Al
         }
         Term::Both(a, b) => {
             let (x, y) = (evaluate(alloc, a, history)?, evaluate(alloc, b, history)?);
-            pair_answers(alloc, x.0, y.0, x.1.later(y.1))
+            pair_outputs(alloc, x.0, y.0, x.1.later(y.1))
         }
         Term::Either(a, b) => {
             let (x, y) = (evaluate(alloc, a, history)?, evaluate(alloc, b, history)?);
-            pair_answers(alloc, x.0, y.0, x.1.earlier(y.1))
+            pair_outputs(alloc, x.0, y.0, x.1.earlier(y.1))
         }
         Term::AndThen(a, b) => in_turn(alloc, a, b, history),
         Term::WhileInput(s, test) => {
@@ -74,7 +75,7 @@ fn evaluate(alloc: Global, term: &Term, history: Pairs<'_>) -> Result<Answer, Al
         }
         Term::WhileOutput(s, pick, test) => while_output(alloc, s, *pick, *test, history),
         Term::CollectAll(s) => collect_all(alloc, s, history),
-        Term::Map(s, func) => Ok(map_answer(evaluate(alloc, s, history)?, *func)),
+        Term::Map(s, func) => Ok(map_output(evaluate(alloc, s, history)?, *func)),
         Term::ResetWhen(s, pick, test) => since_last_reset(alloc, s, *pick, *test, history),
     }
 }
@@ -155,7 +156,7 @@ fn since_last_reset(
 }
 
 // Makes a pair of two outputs, with a decision.
-fn pair_answers(
+fn pair_outputs(
     alloc: Global,
     first: Out,
     second: Out,
@@ -176,7 +177,7 @@ fn only_if(from: Answer, passed: bool) -> Answer
 }
 
 // Applies a function to the output.
-fn map_answer(from: Answer, func: Func) -> Answer
+fn map_output(from: Answer, func: Func) -> Answer
     ensures value { Gives result (answer (applied func (output_of from.0)) from.1) }
 {
     let (out, decision) = from;
@@ -184,7 +185,7 @@ fn map_answer(from: Answer, func: Func) -> Answer
 }
 
 // Returns the number of earlier steps, with a decision.
-fn count_answer(history: Pairs<'_>, decision: Decision) -> Answer
+fn return_count(history: Pairs<'_>, decision: Decision) -> Answer
     requires some { 0 < length history.now }
     ensures value { Gives result
         (answer (number (saturated (length (earlier (history_of history.now))))) decision) }
@@ -193,7 +194,7 @@ fn count_answer(history: Pairs<'_>, decision: Decision) -> Answer
 }
 
 // Returns a delay as the output, and continues after it.
-fn wait_answer(history: Pairs<'_>, delay: u64) -> Answer
+fn return_delay(history: Pairs<'_>, delay: u64) -> Answer
     requires some { 0 < length history.now }
     ensures value { Gives result (waits delay (history_of history.now)) }
 {

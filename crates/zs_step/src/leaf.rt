@@ -2,10 +2,10 @@
 
 ghost use Rattle.std.specs.Prelude.{◌≡◌, ℕ, ◌∷◌, []};
 ghost use Rattle.zs_step.specs.History.{History};
+ghost use Rattle.zs_step.specs.Answer.{run_after, window_end};
 ghost use Rattle.zs_step.specs.LeafState.{state_leaf, leaf_output, before_in, next_count, next_past, LeafRepresents, LeafAnswers, HasOutput, HasDecision};
 
 use crate::decision::Decision;
-use crate::leaves::{run_after, window_end};
 
 /// The past of a leaf that counts from its first step.
 #[derive(Clone, Copy)]
@@ -217,4 +217,26 @@ fn before_in(past: Option<Past>) -> u64
     ensures value { result ≡ before_in past }
 {
     past.map_or(0, |past| past.before)
+}
+
+// Returns the end of the window that contains a moment.
+pub(crate) fn window_end(period: u64, first: u64, now: u64) -> u64
+    ensures value { result ≡ window_end period first now }
+{
+    if period == 0 {
+        return now;
+    }
+    let late = now.saturating_sub(first) % period;
+    now.saturating_add(period - late)
+}
+
+// Returns the next run of `fixed` at a step after the first.
+pub(crate) fn run_after(period: u64, first: u64, run: u64, now: u64) -> u64
+    ensures value { result ≡ run_after period first run now }
+{
+    if period == 0 || now.saturating_sub(run) > period {
+        return now;
+    }
+    let late = now.saturating_sub(first) % period;
+    now.saturating_add(period - late)
 }

@@ -1,9 +1,11 @@
-//! What leaves compute from a whole history, and the next run of a period.
+//! What leaves compute from a whole history.
 
 ghost use Rattle.std.specs.Prelude.{◌≡◌, ◌<◌, ◌+◌, ◌-◌, ◌%◌, ◌*◌, ◌^◌, length};
 ghost use Rattle.zs_term.specs.Saturating.{saturated};
 ghost use Rattle.zs_step.specs.History.{history_of, last_moment, last_input, first_moment, earlier};
-ghost use Rattle.zs_step.specs.Answer.{fibonacci_number, next_run, run_after, window_end};
+ghost use Rattle.zs_step.specs.Answer.{fibonacci_number, next_run};
+
+use crate::leaf::run_after;
 
 // Returns the number of steps before the last one.
 pub(crate) fn steps_before(history: &[(u64, u64)]) -> u64
@@ -82,26 +84,4 @@ pub(crate) fn linear_delay(unit: u64, history: &[(u64, u64)]) -> u64
     ensures value { result ≡ saturated (unit * length (history_of history.now)) }
 {
     unit.saturating_mul(history.len() as u64)
-}
-
-// Returns the end of the window that contains a moment.
-pub(crate) fn window_end(period: u64, first: u64, now: u64) -> u64
-    ensures value { result ≡ window_end period first now }
-{
-    if period == 0 {
-        return now;
-    }
-    let late = now.saturating_sub(first) % period;
-    now.saturating_add(period - late)
-}
-
-// Returns the next run of `fixed` at a step after the first.
-pub(crate) fn run_after(period: u64, first: u64, run: u64, now: u64) -> u64
-    ensures value { result ≡ run_after period first run now }
-{
-    if period == 0 || now.saturating_sub(run) > period {
-        return now;
-    }
-    let late = now.saturating_sub(first) % period;
-    now.saturating_add(period - late)
 }

@@ -4,7 +4,7 @@ ghost use Rattle.std.specs.Prelude.{◌≡◌, [], true, IfOk, IsOk};
 ghost use Rattle.zs_term.specs.Schedule.{schedule_of, leaf};
 ghost use Rattle.zs_step.specs.LeafState.{state_leaf, LeafRepresents};
 ghost use Rattle.zs_step.specs.Memory.{is_leaf};
-ghost use Rattle.zs_step.specs.State.{state_schedule, IsJoined, Represents};
+ghost use Rattle.zs_step.specs.State.{state_schedule, Represents};
 
 use crate::collected::Collected;
 use crate::leaf::Leaf;
@@ -174,36 +174,4 @@ fn parts(alloc: Global, first: &Term, second: &Term) -> Result<Box<(State, State
 {
     let parts = (state_of(alloc, first)?, state_of(alloc, second)?);
     Ok(Box::new(alloc, parts)?)
-}
-
-// Resets a state, so that it represents the empty history.
-pub(crate) fn clear(state: &mut State, alloc: Global)
-    ensures same { state_schedule state.new ≡ state_schedule state.old }
-    ensures represents { Represents state.new [] }
-    ensures joined { IsJoined state.new }
-{
-    match state {
-        State::Leaf(leaf) => leaf.clear(),
-        State::Both { parts } => {
-            clear(&mut parts.0, alloc);
-            clear(&mut parts.1, alloc);
-        }
-        State::Either { parts } => {
-            clear(&mut parts.0, alloc);
-            clear(&mut parts.1, alloc);
-        }
-        State::AndThen { done, parts } => {
-            *done = false;
-            clear(&mut parts.0, alloc);
-            clear(&mut parts.1, alloc);
-        }
-        State::CollectAll { part, kept } => {
-            clear(part, alloc);
-            **kept = Collected::nothing(alloc);
-        }
-        State::WhileInput { part, .. } => clear(part, alloc),
-        State::WhileOutput { part, .. } => clear(part, alloc),
-        State::Map { part, .. } => clear(part, alloc),
-        State::ResetWhen { part, .. } => clear(part, alloc),
-    }
 }

@@ -1,7 +1,7 @@
 //! One step of a schedule's state, in place. It makes no output: `view.rt` reads that from the
 //! state.
 
-ghost use Rattle.std.specs.Prelude.{◌≡◌, ◌<◌, ◌+◌, ◌*◌, ◌^◌, true, OnOk, IsOk};
+ghost use Rattle.std.specs.Prelude.{◌≡◌, ◌<◌, ◌+◌, ◌*◌, ◌^◌, [], true, OnOk, IsOk};
 ghost use Rattle.zs_term.specs.Output.{pair};
 ghost use Rattle.zs_term.specs.Schedule.{weight};
 ghost use Rattle.zs_step.specs.History.{History};
@@ -10,9 +10,10 @@ ghost use Rattle.zs_step.specs.Numbers.{IsNumbers};
 ghost use Rattle.zs_step.specs.State.{state_schedule, last_output, side_output, Represents, IsJoined, Answers, CountsOn};
 ghost use Rattle.zs_step.specs.Stepping.{BothAnswers, BothCounts, EitherAnswers, EitherCounts, AndThenAnswers, AndThenCounts, ResetAnswers, ResetCounts};
 
+use crate::collected::Collected;
 use crate::decision::Decision;
 use crate::numbers::Numbers;
-use crate::state::{State, clear};
+use crate::state::State;
 use crate::view::{make_out, read_mapped};
 use std::alloc::{AllocError, Global};
 use zs_term::{Pick, Test};
@@ -218,4 +219,36 @@ fn step_reset_when(
     }
     clear(part, step.alloc);
     step_node(part, step, trace)
+}
+
+// Resets a state, so that it represents the empty history.
+fn clear(state: &mut State, alloc: Global)
+    ensures same { state_schedule state.new ≡ state_schedule state.old }
+    ensures represents { Represents state.new [] }
+    ensures joined { IsJoined state.new }
+{
+    match state {
+        State::Leaf(leaf) => leaf.clear(),
+        State::Both { parts } => {
+            clear(&mut parts.0, alloc);
+            clear(&mut parts.1, alloc);
+        }
+        State::Either { parts } => {
+            clear(&mut parts.0, alloc);
+            clear(&mut parts.1, alloc);
+        }
+        State::AndThen { done, parts } => {
+            *done = false;
+            clear(&mut parts.0, alloc);
+            clear(&mut parts.1, alloc);
+        }
+        State::CollectAll { part, kept } => {
+            clear(part, alloc);
+            **kept = Collected::nothing(alloc);
+        }
+        State::WhileInput { part, .. } => clear(part, alloc),
+        State::WhileOutput { part, .. } => clear(part, alloc),
+        State::Map { part, .. } => clear(part, alloc),
+        State::ResetWhen { part, .. } => clear(part, alloc),
+    }
 }

@@ -284,7 +284,7 @@ pub(crate) enum Scan {
 
 // Returns the place after the spaces at a place.
 #[tactic(auto, using(crate::proofs::Lexing::lex_space))]
-fn behind_spaces(text: &[u8], from: usize) -> usize
+fn skip_spaces(text: &[u8], from: usize) -> usize
     requires within { from ≤ length text.now }
     ensures forward { from ≤ result }
     ensures within { result ≤ length text.now }
@@ -302,7 +302,7 @@ fn behind_spaces(text: &[u8], from: usize) -> usize
 }
 
 // Returns the text from a place on.
-fn behind(text: &[u8], at: usize) -> &[u8]
+fn text_from(text: &[u8], at: usize) -> &[u8]
     requires within { at ≤ length text.now }
     ensures value { result.now ≡ drop at text.now }
 {
@@ -315,11 +315,11 @@ pub(crate) fn scan_at(text: &[u8], from: usize) -> Scan
     requires within { from ≤ length text.now }
     ensures value { Scans text.now from result }
 {
-    let at = behind_spaces(text, from);
+    let at = skip_spaces(text, from);
     if at == text.len() {
         return Scan::End;
     }
-    let rest = behind(text, at);
+    let rest = text_from(text, at);
     match token_at(rest) {
         None => Scan::Stuck(at),
         Some(found) => Scan::Next(at, found.lexeme, at + found.len),

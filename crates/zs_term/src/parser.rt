@@ -146,7 +146,7 @@ impl Parser {
     }
 
     // The token after `exponential(N`.
-    fn behind_base(&self, base: Option<u64>, mark: Mark) -> Result<Option<Stage>, AllocError>
+    fn parse_after_base(&self, base: Option<u64>, mark: Mark) -> Result<Option<Stage>, AllocError>
         ensures value { IfOk result (λ next.
             option_map stage_of next ≡ base_mark (keep self.now.build) base mark) }
     {
@@ -158,7 +158,7 @@ impl Parser {
     }
 
     // The token after `S.`.
-    fn behind_dot(&self, part: Part, mark: Mark) -> Result<Option<Stage>, AllocError>
+    fn parse_after_dot(&self, part: Part, mark: Mark) -> Result<Option<Stage>, AllocError>
         ensures value { IfOk result (λ next.
             option_map stage_of next ≡ dot_mark (keep self.now.build) (kept_of part) mark) }
     {
@@ -194,7 +194,7 @@ impl Parser {
 
     // The token after a whole term, if it isn't a dot.
     #[tactic(auto, using(crate::proofs::Stacks::joined_push, crate::proofs::Stacks::bare_first, crate::proofs::Stacks::bare_none))]
-    fn join_behind(&mut self, part: Part, mark: Mark) -> Result<Option<Stage>, AllocError>
+    fn parse_after_term(&mut self, part: Part, mark: Mark) -> Result<Option<Stage>, AllocError>
         ensures value { IfOk result (λ next. Reaches self.new next
             (join_mark (keep self.old.build) (stack_of self.old) (kept_of part) mark)) }
         ensures build { self.new.build ≡ self.old.build }
@@ -228,9 +228,9 @@ impl Parser {
         match stage {
             Stage::Opening(form) => Ok(on_open(Stage::Counting(form), mark)),
             Stage::ExpOpening => Ok(on_open(Stage::ExpCounting, mark)),
-            Stage::Based(base) => self.behind_base(base, mark),
+            Stage::Based(base) => self.parse_after_base(base, mark),
             Stage::Closing(part) => Ok(on_close(Stage::After(part), mark)),
-            Stage::Dotted(part) => self.behind_dot(part, mark),
+            Stage::Dotted(part) => self.parse_after_dot(part, mark),
             Stage::Method(method, part) => Ok(on_open(argument_of(method, part), mark)),
             Stage::Picking(action, part) => Ok(pick_or_compare(action, part, mark)),
             Stage::Testing(part, subject) => Ok(compare(part, subject, mark)),
@@ -262,7 +262,7 @@ impl Parser {
             },
             Stage::After(part) => match mark {
                 Mark::Dot => Ok(Some(Stage::Dotted(part))),
-                _ => self.join_behind(part, mark),
+                _ => self.parse_after_term(part, mark),
             },
             stage => self.within_form(stage, mark),
         }

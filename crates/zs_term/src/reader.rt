@@ -20,7 +20,7 @@ use crate::token::Lexeme;
 use std::alloc::Global;
 
 // Returns the place of the first number that doesn't fit, after one more token.
-fn huge_behind(huge: Option<u64>, place: usize, lexeme: Lexeme) -> Option<u64>
+fn huge_after(huge: Option<u64>, place: usize, lexeme: Lexeme) -> Option<u64>
     ensures value { (t : Token) → IsLexeme lexeme t → result ≡ huge_with huge place t }
 {
     if huge.is_some() {
@@ -60,7 +60,7 @@ fn whole(alloc: Global, build: bool, text: &[u8]) -> Result<(Part, Option<u64>),
                 Ok(None) => return Err(TermFault::NoTerm { at: place as u64 }),
                 Ok(Some(next)) => {
                     stage = next;
-                    huge = huge_behind(huge, place, lexeme);
+                    huge = huge_after(huge, place, lexeme);
                     from = end;
                 }
             },

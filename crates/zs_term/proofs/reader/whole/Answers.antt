@@ -37,4 +37,4 @@ loop-parser-preserved c =
     let t = c.in-Next.ensures.value in
     let stepped = rw l.invariant.0 at (rw c.in-Ok-Some.field-0-is at (c.in-Ok-Some.ensures.value t.0 t.1)) in
     let built = c.in-Ok-Some.ensures.build ∙ l.invariant.0 in
-    (built, one_more c.args.build c.args.text.now (at (stack_of l.parser) (stage_of l.stage)) l.huge l.from l.invariant.1 c.in-Next.place c.in-Next.end t.0 _ c.huge_behind-huge.result t.2 t.4 (sym stepped) (c.huge_behind-huge.ensures.value t.0 t.1))
+    (built, one_more c.args.build c.args.text.now (at (stack_of l.parser) (stage_of l.stage)) l.huge l.from l.invariant.1 c.in-Next.place c.in-Next.end t.0 _ c.huge_after-huge.result t.2 t.4 (sym stepped) (c.huge_after-huge.ensures.value t.0 t.1))

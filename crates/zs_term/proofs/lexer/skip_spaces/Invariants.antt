@@ -1,6 +1,6 @@
 use Rattle.std.proofs.Common.{◌≡◌, ◌≤◌, ◌-◌, length, drop}
 use Rattle.zs_term.specs.Token.{lex}
-use Rattle.zs_term.proofs.lexer.behind_spaces.Given as goal
+use Rattle.zs_term.proofs.lexer.skip_spaces.Given as goal
 
 abbrev pub invariant-loop-at : goal.invariant-loop-at
 invariant-loop-at l = record {

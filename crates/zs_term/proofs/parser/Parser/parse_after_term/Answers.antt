@@ -1,6 +1,6 @@
 use Rattle.std.proofs.Common.{arith}
 use Rattle.zs_term.proofs.Stacks.{bare_first, joined_push}
-use Rattle.zs_term.proofs.parser.Parser.join_behind.Goals as goal
+use Rattle.zs_term.proofs.parser.Parser.parse_after_term.Goals as goal
 
 -- a `(` gets its operator
 pub returns-in_ok-push-in-Operator-clause-value : goal.returns-in_ok-push-in-Operator-clause-value
