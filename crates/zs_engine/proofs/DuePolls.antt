@@ -13,7 +13,7 @@ use Rattle.zs_step.specs.declared.decision.Decision.TheVariants.{Stop, Next}
 use Rattle.zs_drive.specs.declared.record.Ending.{Ending}
 use Rattle.zs_drive.specs.Clocks.{AllBefore}
 use Rattle.zs_drive.specs.Values.{JobRecord, AttemptedValue}
-use Rattle.zs_drive.specs.Timeline.{Timeline, number_of, ending_by_outcome, waiting, running, beat_after, by_answer, by_outcome, timeline_of, moments_of, with_moment, poll_moments}
+use Rattle.zs_drive.specs.Timeline.{Timeline, number_of, ending_by_outcome, wait_until, run_from, beat_after, by_answer, by_outcome, timeline_of, moments_of, with_moment, poll_moments}
 use Rattle.std.proofs.lemmas.Bool.Decides.{nat_tests}
 use Rattle.zs_drive.proofs.Ticks.{lt_cases}
 use Rattle.zs_drive.proofs.Moments.{moments-one, moments-two}
@@ -41,7 +41,7 @@ module _ (job : JobRecord) where
     resume-grows : (s : ℕ) (h : History) (x : ℕ) → Grows (s ∷ []) (s ∷ c ∷ flat_map moments_of (resume job c h x).attempts)
     unfolding resume
     resume-grows s h x =
-        lt_cases c x (λ b. Grows (s ∷ []) (s ∷ c ∷ flat_map moments_of (if b then waiting x else running c (saturated (c + (beat_after job h).ms))).attempts))
+        lt_cases c x (λ b. Grows (s ∷ []) (s ∷ c ∷ flat_map moments_of (if b then wait_until x else run_from c (saturated (c + (beat_after job h).ms))).attempts))
         (λ _. inl refl)
         (λ _. inr refl)
 

@@ -2,15 +2,15 @@
 ghost use Rattle.std.specs.Prelude.{◌≡◌, ℕ, ◌≤◌, ◌<◌, List, [], ◌∷◌, ◌++◌, length, map, Some, None, slice_set, OnOk, IfOk};
 ghost use Rattle.std.specs.FinMap.{empty, get};
 ghost use Rattle.zs_term.specs.Saturating.{max_moment};
+ghost use Rattle.zs_drive.specs.Tasks.{TaskValue};
 ghost use Rattle.zs_pool.specs.Limits.{max_tasks};
 ghost use Rattle.zs_engine.specs.Times.{IsLater};
 ghost use Rattle.zs_engine.specs.Rounds.{job_alone, job_kept, jobs_in, kept_of, next_tick_of, set_next};
 ghost use Rattle.zs_engine.specs.Answers.{IsAnswer};
 
 use crate::answer::Answer;
-use crate::fault::{EngineFault, refused_round};
-use crate::slots::{into_tasks, take_tasks};
-use crate::timers::set_timer;
+use crate::fault::{EngineFault, round_fault};
+use crate::slots::take_tasks;
 use std::alloc::Global;
 use std::mem::drop;
 use std::sync::Wait;
@@ -41,6 +41,41 @@ fn new_tally(alloc: Global) -> Result<(Tally, TallySeat), EngineFault>
         Ok(made) => Ok(made),
         Err(_refused) => Err(EngineFault::Memory),
     }
+}
+
+// Returns the tick at which the task is due, if there is one.
+fn next_tick(clock: &Clock, task: &Task) -> Option<u64>
+    ensures value { result ≡ next_tick_of clock.now task.now }
+{
+    clock.tick(task.due()?)
+}
+
+// Arms the timer of a task that has none, if there is a tick for it.
+fn set_timer(clock: &Clock, agenda: &mut Agenda, task: &Task) -> Result<(), EngineFault>
+    requires unset { get agenda.old.moments task.now.number ≡ None }
+    requires later { IsLater agenda.old.last_taken (next_tick_of clock.now task.now) }
+    ensures ok { OnOk result
+        (agenda.new ≡ set_next agenda.old task.now.number (next_tick_of clock.now task.now)) }
+{
+    if let Some(moment) = next_tick(clock, task) {
+        agenda.set(task.number(), moment)?;
+    }
+    Ok(())
+}
+
+// Returns the tasks of slots, none of which is empty.
+fn into_tasks(alloc: Global, slots: Vec<Option<Task>>) -> Result<Vec<Task>, EngineFault>
+    requires filled { (tasks : List TaskValue) × (slots.items ≡ map (λ t. Some t) tasks) }
+    ensures same { IfOk result (λ tasks. slots.items ≡ map (λ t. Some t) tasks.items) }
+{
+    let mut tasks = Vec::with_capacity(alloc, slots.len())?;
+    for slot in slots {
+        let Some(task) = slot else {
+            unreachable!();
+        };
+        tasks.push(task)?;
+    }
+    Ok(tasks)
 }
 
 impl Engine {
@@ -164,7 +199,7 @@ impl Engine {
             due,
         ) {
             Ok(polled) => polled,
-            Err(fault) => return Err(refused_round(fault)),
+            Err(fault) => return Err(round_fault(fault)),
         };
         for task in polled {
             self.put_back(task)?;
@@ -235,7 +270,7 @@ impl Engine {
         }
         let poller = match Poller::new(self.alloc) {
             Ok(poller) => poller,
-            Err(fault) => return Err(refused_round(fault)),
+            Err(fault) => return Err(round_fault(fault)),
         };
         let mut polling = poller.begin(gate);
         self.run_all(rt, cut, gate, &mut polling)

@@ -48,7 +48,7 @@ impl From<DriveFault> for EngineFault {
 }
 
 // Maps the fault of a round to that of a run. No round fails with `Full`.
-pub(crate) fn refused_round(fault: PoolFault) -> EngineFault
+pub(crate) fn round_fault(fault: PoolFault) -> EngineFault
     requires possible { fault ≢ PoolFault.Full }
     ensures memory { result ≡ EngineFault.Memory ↔ fault ≡ PoolFault.Memory }
     ensures thread { result ≡ EngineFault.NoThread ↔ fault ≡ PoolFault.NoThread }

@@ -18,7 +18,6 @@ mod fault;
 mod jobs;
 mod laws;
 mod slots;
-mod timers;
 
 pub use answer::Answer;
 pub use fault::EngineFault;

@@ -1,6 +1,6 @@
 //! The tasks of a run, each in the slot of its job. A slot is empty while several workers poll its
 //! task.
-ghost use Rattle.std.specs.Prelude.{List, ◌≡◌, map, Some, None, slice_get, slice_set, OnOk, IfOk};
+ghost use Rattle.std.specs.Prelude.{List, ◌≡◌, Some, None, slice_get, slice_set, OnOk, IfOk};
 ghost use Rattle.zs_drive.specs.Tasks.{TaskValue};
 ghost use Rattle.zs_engine.specs.Slots.{Picks, emptied, IsDistinct};
 
@@ -35,21 +35,6 @@ pub(crate) fn take_tasks(
     let mut tasks = Vec::with_capacity(alloc, numbers.len())?;
     for number in numbers {
         tasks.push(take_task(slots, *number))?;
-    }
-    Ok(tasks)
-}
-
-// Returns the tasks of slots, none of which is empty.
-pub(crate) fn into_tasks(alloc: Global, slots: Vec<Option<Task>>) -> Result<Vec<Task>, EngineFault>
-    requires filled { (tasks : List TaskValue) × (slots.items ≡ map (λ t. Some t) tasks) }
-    ensures same { IfOk result (λ tasks. slots.items ≡ map (λ t. Some t) tasks.items) }
-{
-    let mut tasks = Vec::with_capacity(alloc, slots.len())?;
-    for slot in slots {
-        let Some(task) = slot else {
-            unreachable!();
-        };
-        tasks.push(task)?;
     }
     Ok(tasks)
 }

@@ -13,8 +13,8 @@ mod workers;
 
 use crate::fault::PoolFault;
 use crate::gate::Gate;
-use crate::rounds::batches::{cut_into, in_order};
-use crate::rounds::cut::Cut;
+use crate::rounds::batches::in_order;
+use crate::rounds::cut::{Cut, cut_into};
 use crate::rounds::sharing::{Work, poll_shared};
 use crate::tally::{Tally, TallySeat};
 use std::alloc::Global;

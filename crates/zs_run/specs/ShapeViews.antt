@@ -8,7 +8,7 @@ use Rattle.zs_agenda.specs.Ticks.{Ticks, every_ms, listed}
 use Rattle.zs_run.specs.declared.shapes.AskedTicks.{AskedTicks}
 use Rattle.zs_run.specs.declared.shapes.AskedTicks.TheVariants.{EveryMs, Listed}
 use Rattle.zs_run.specs.declared.shapes.DocumentParts as document
-use Rattle.zs_run.specs.declared.shapes.JobParts as job
+use Rattle.zs_run.specs.declared.job_reading.JobParts as job
 use Rattle.zs_run.specs.Shapes.{DocumentParts, JobParts}
 
 -- the value that a key has, if it has one

@@ -1,15 +1,14 @@
 //! Reads the entries of a script in a plan.
 ghost use Rattle.std.specs.Prelude.{◌≡◌, map, Some};
-ghost use Rattle.std.specs.List.{list_all};
 ghost use Rattle.serde_json.specs.View.{view};
 ghost use Rattle.zs_run.specs.declared.plan_fault.PlanFault.TheVariants as faults;
 ghost use Rattle.zs_run.specs.Refusals.{Gives, demand_some};
-ghost use Rattle.zs_run.specs.Tree.{all_of, has_only_keys};
-ghost use Rattle.zs_run.specs.Shapes.{beat_of, entry_keys, outcome_of};
+ghost use Rattle.zs_run.specs.Tree.{all_of};
+ghost use Rattle.zs_run.specs.Shapes.{beat_of, outcome_of};
 ghost use Rattle.zs_run.specs.ShapeViews.{found_view};
 
 use crate::plan_fault::PlanFault;
-use crate::tree::{has_only_keys, whole};
+use crate::tree::whole;
 use serde_json::Value;
 use std::alloc::Global;
 use zs_effect::{Beat, Outcome};
@@ -52,13 +51,4 @@ pub(crate) fn beats_of(
         beats.push(beat)?;
     }
     Ok(beats)
-}
-
-/// Whether all entries have only known keys.
-pub(crate) fn have_known_keys(entries: &[Value]) -> bool
-    ensures value { result ≡ list_all (λ v. has_only_keys entry_keys (view v)) entries.now }
-{
-    entries
-        .iter()
-        .all(|entry| has_only_keys(entry, &["ms", "ok", "err"]))
 }

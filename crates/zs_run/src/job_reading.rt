@@ -1,5 +1,5 @@
 //! The jobs of a plan.
-ghost use Rattle.std.specs.Prelude.{◌≡◌, ◌<◌, ◌^◌, ◌++◌, ◌∷◌, ◌&&◌, [], ℕ, List, map, length, IfOk, IfErr, OnOk, Some};
+ghost use Rattle.std.specs.Prelude.{◌≡◌, ◌<◌, ◌^◌, ◌++◌, ◌∷◌, ◌&&◌, [], ℕ, List, map, option_map, length, IfOk, IfErr, OnOk, Some};
 ghost use Rattle.std.specs.List.{list_all};
 ghost use Rattle.serde_json.specs.View.{view};
 ghost use Rattle.zs_term.specs.Schedule.{schedule_of};
@@ -12,17 +12,45 @@ ghost use Rattle.zs_run.specs.Shapes.{entry_keys, job_keys};
 ghost use Rattle.zs_run.specs.Names.{KnowsNames, LearnsName};
 ghost use Rattle.zs_run.specs.Jobs.{job_of, jobs_of, mode_of, script_of};
 
-use crate::entry::{beats_of, have_known_keys};
-use crate::names::{add_name, is_name};
+use crate::entry::beats_of;
+use crate::names::is_name;
 use crate::plan_fault::PlanFault;
-use crate::shapes::JobParts;
-use crate::tree::has_only_keys;
+use crate::tree::{has_only_keys, list, text, whole_or};
 use serde_json::Value;
-use std::alloc::Global;
+use std::alloc::{AllocError, Global};
 use std::collections::BTreeSet;
 use zs_drive::{Job, Mode};
 use zs_effect::{Beat, Script};
 use zs_term::{Checked, TermFault};
+
+// The parts of a job.
+#[derive(Drop)]
+struct JobParts<'v> {
+    name: &'v str,
+    mode: &'v str,
+    schedule: &'v str,
+    start: u64,
+    entries: &'v [Value],
+}
+
+impl<'v> JobParts<'v> {
+    ghost use Rattle.zs_run.specs.Shapes.{job_parts};
+    ghost use Rattle.zs_run.specs.ShapeViews.{job_view};
+
+    // The parts of a job, if all are there and have their types.
+    #[tactic(auto, unfolding(crate::specs::Shapes::job_parts))]
+    fn of(job: &'v Value) -> Option<JobParts<'v>>
+        ensures value { option_map job_view result ≡ job_parts (view job.now) }
+    {
+        Some(JobParts {
+            name: text(job, "name")?,
+            mode: text(job, "mode")?,
+            schedule: text(job, "schedule")?,
+            start: whole_or(job, "start", 0)?,
+            entries: list(job, "script")?,
+        })
+    }
+}
 
 // The mode that a text names.
 #[tactic(auto, unfolding(crate::specs::Jobs::mode_of))]
@@ -36,6 +64,15 @@ fn mode_of(text: &str) -> Option<Mode>
     } else {
         None
     }
+}
+
+// Whether all entries have only known keys.
+fn have_known_keys(entries: &[Value]) -> bool
+    ensures value { result ≡ list_all (λ v. has_only_keys entry_keys (view v)) entries.now }
+{
+    entries
+        .iter()
+        .all(|entry| has_only_keys(entry, &["ms", "ok", "err"]))
 }
 
 // Whether a job and the entries of its script have no other key.
@@ -114,6 +151,18 @@ fn take_job(
         → Gives job_record result (job_of number earlier (view value)) }
 {
     job_of(alloc, number, names, &value)
+}
+
+// Adds a name to the set.
+#[tactic(auto, using(crate::proofs::NameLemmas::knows_inserted))]
+fn add_name(alloc: Global, names: &mut BTreeSet<String>, name: &str) -> Result<(), AllocError>
+    ensures known { OnOk result (LearnsName names.old names.new name.now) }
+{
+    let copy = String::from_str(alloc, name)?;
+    match names.insert(copy) {
+        Ok(_) => Ok(()),
+        Err(_) => Err(AllocError),
+    }
 }
 
 /// Adds a job and its name to those before it. Its one fault is `Memory`.

@@ -1,11 +1,7 @@
-//! The names of jobs: which texts are valid, and which were used before.
-ghost use Rattle.std.specs.Prelude.{◌≡◌, OnOk};
+//! The names of jobs: which texts are valid.
+ghost use Rattle.std.specs.Prelude.{◌≡◌};
 ghost use Rattle.std.specs.List.{list_all};
 ghost use Rattle.zs_run.specs.Jobs.{is_name, is_name_byte};
-ghost use Rattle.zs_run.specs.Names.{LearnsName};
-
-use std::alloc::{AllocError, Global};
-use std::collections::BTreeSet;
 
 // The greatest number of bytes of a name.
 const MAX_NAME: usize = 64;
@@ -32,20 +28,4 @@ pub(crate) fn is_name(text: &str) -> bool
 {
     let bytes = text.as_bytes();
     0 < bytes.len() && bytes.len() <= MAX_NAME && all_are_name_bytes(bytes)
-}
-
-/// Adds a name to the set.
-#[tactic(auto, using(crate::proofs::NameLemmas::knows_inserted))]
-pub(crate) fn add_name(
-    alloc: Global,
-    names: &mut BTreeSet<String>,
-    name: &str,
-) -> Result<(), AllocError>
-    ensures known { OnOk result (LearnsName names.old names.new name.now) }
-{
-    let copy = String::from_str(alloc, name)?;
-    match names.insert(copy) {
-        Ok(_) => Ok(()),
-        Err(_) => Err(AllocError),
-    }
 }

@@ -8,11 +8,11 @@ ghost use Rattle.zs_run.specs.PlanReads.{Reads, reading};
 
 use crate::plan::Plan;
 use crate::plan_fault::PlanFault;
-use crate::reading::{MAX_BYTES, read_plan};
+use crate::reading::{InputFault, MAX_BYTES, read_plan, read_up_to};
 use crate::reporting::report;
 use crate::run_fault::RunFault;
 use crate::streams::{Drain, Source};
-use crate::transfer::{InputFault, read_up_to, write_all};
+use crate::transfer::write_all;
 use std::alloc::Global;
 use std::sync::Wait;
 use std::thread::Threads;

@@ -1,4 +1,4 @@
-//! The parts of a document, a job and an entry: each is looked up once, and has its type from then
+//! The ticks and the other parts of a document: each is looked up once, and has its type from then
 //! on.
 ghost use Rattle.std.specs.Prelude.{◌≡◌, map, option_map, IfOk, None, Some};
 ghost use Rattle.serde_json.specs.View.{view};
@@ -7,7 +7,7 @@ ghost use Rattle.zs_run.specs.Refusals.{Gives, demand_some};
 ghost use Rattle.zs_run.specs.Tree.{all_of, as_whole, as_wholes};
 
 use crate::plan_fault::PlanFault;
-use crate::tree::{as_list, list, take_list, text, whole_or};
+use crate::tree::{as_list, take_list, whole_or};
 use serde_json::Value;
 use std::alloc::Global;
 use zs_agenda::Clock;
@@ -27,16 +27,6 @@ pub(crate) struct DocumentParts {
     pub(crate) workers: u64,
     pub(crate) grain: u64,
     pub(crate) jobs: Vec<Value>,
-}
-
-/// The parts of a job.
-#[derive(Drop)]
-pub(crate) struct JobParts<'v> {
-    pub(crate) name: &'v str,
-    pub(crate) mode: &'v str,
-    pub(crate) schedule: &'v str,
-    pub(crate) start: u64,
-    pub(crate) entries: &'v [Value],
 }
 
 // The whole numbers of a list.
@@ -117,25 +107,6 @@ impl DocumentParts {
             workers,
             grain,
             jobs,
-        })
-    }
-}
-
-impl<'v> JobParts<'v> {
-    ghost use Rattle.zs_run.specs.Shapes.{job_parts};
-    ghost use Rattle.zs_run.specs.ShapeViews.{job_view};
-
-    /// The parts of a job, if all are there and have their types.
-    #[tactic(auto, unfolding(crate::specs::Shapes::job_parts))]
-    pub(crate) fn of(job: &'v Value) -> Option<JobParts<'v>>
-        ensures value { option_map job_view result ≡ job_parts (view job.now) }
-    {
-        Some(JobParts {
-            name: text(job, "name")?,
-            mode: text(job, "mode")?,
-            schedule: text(job, "schedule")?,
-            start: whole_or(job, "start", 0)?,
-            entries: list(job, "script")?,
         })
     }
 }

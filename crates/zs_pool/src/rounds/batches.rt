@@ -1,8 +1,8 @@
-//! Cuts the due tasks of one moment into batches, and merges the polled batches in order.
+//! Merges the polled batches of one moment in order.
 ghost use Rattle.std.specs.Prelude.{◌≡◌, ◌≤◌, map, length, All, IfOk, IfErr};
 ghost use Rattle.std.specs.List.{AllZip};
 ghost use Rattle.zs_pool.specs.Rounds.{polled_at};
-ghost use Rattle.zs_pool.specs.Batches.{AreNumbered, AreCut, IsEachOnce, tasks_of};
+ghost use Rattle.zs_pool.specs.Batches.{IsEachOnce, tasks_of};
 ghost use Rattle.zs_pool.specs.Messages.{HasPoll, IsPollAmong, numbers_of};
 ghost use Rattle.zs_pool.specs.declared.fault.PoolFault.TheVariants.{Memory};
 
@@ -13,28 +13,6 @@ use std::alloc::Global;
 use std::mem::drop;
 use std::snapshot::Snapshot;
 use zs_drive::Task;
-
-// Cuts the tasks into batches of `grain`, from the last on. The last batch may be shorter.
-pub(crate) fn cut_into(
-    alloc: Global,
-    grain: u64,
-    mut tasks: Vec<Task>,
-) -> Result<Vec<Batch>, PoolFault>
-    requires grain { 1 ≤ grain }
-    ensures numbered { IfOk result (λ v. AreNumbered v.items) }
-    ensures cutting { IfOk result (λ v. tasks_of v.items ≡ tasks.items) }
-    ensures cut { IfOk result (λ v. AreCut grain v.items) }
-    ensures memory { IfErr result (λ e. e ≡ Memory) }
-{
-    let count = (tasks.len() as u64).div_ceil(grain);
-    let mut batches = Vec::with_capacity(alloc, count as usize)?;
-    for number in (0..count).rev() {
-        let own = tasks.split_off((number * grain) as usize)?;
-        batches.push(Batch { number, tasks: own })?;
-    }
-    batches.reverse();
-    Ok(batches)
-}
 
 // Puts each message into the slot of its number.
 fn place_batches(

@@ -1,6 +1,5 @@
 //! Polls batches on several threads.
 ghost use Rattle.std.specs.Prelude.{◌≡◌, ◌≢◌, ◌+◌, ◌≤◌, All, IfOk, IfErr, length};
-ghost use Rattle.std.specs.Vec.{vec_capacity};
 ghost use Rattle.zs_pool.specs.Limits.{max_workers, max_tasks};
 ghost use Rattle.zs_pool.specs.Batches.{AllPollable, AreNumbered, IsEachOnce, tasks_in};
 ghost use Rattle.zs_pool.specs.Messages.{IsPollAmong, numbers_of};
@@ -15,15 +14,12 @@ use crate::gate::Gate;
 use crate::polled::Polled;
 use crate::rounds::shared::{Rights, Shared};
 use crate::rounds::workers::Served;
-use crate::shelf::{Shelf, ShelfPass};
+use crate::shelf::Shelf;
 use crate::tally::{Tally, TallySeat};
 use std::alloc::Global;
 use std::sync::Wait;
 use std::thread;
 use std::thread::{Scope, Threads};
-
-// How often the calling thread may find the shelf empty before it waits for the helpers.
-const TRIES: u64 = 1000;
 
 // The result of a round whose helpers are joined, and the messages that were taken from the shelf
 // before that.
@@ -34,30 +30,6 @@ struct Gathered {
 }
 
 impl<'s, G: Gate> Shared<'s, G> {
-    // Takes messages from the shelf while the helpers work, until all are there or `TRIES` tries
-    // found it empty.
-    fn collect<R: Wait>(self, rt: &R, pass: &mut ShelfPass, messages: &mut Vec<Polled>)
-        requires shelf { pass.old.shelf ≡ self.shelf.now }
-        requires messages { pass.old.taken ≡ messages.old.items }
-        requires room { (length messages.old.items ≤ self.batches)
-            × (self.batches ≤ vec_capacity messages.old) }
-        ensures pass { (pass.new.shelf ≡ self.entry.shelf.now) × (pass.new.share ≡ pass.old.share)
-            × (pass.new.put ≡ pass.old.put) }
-        ensures messages { pass.new.taken ≡ messages.new.items }
-    {
-        let mut empty = 0;
-        while empty < TRIES && messages.len() < self.batches {
-            let Some(message) = self.shelf.take(rt, pass) else {
-                empty += 1;
-                thread::yield_now();
-                continue;
-            };
-            let Ok(()) = messages.push(message) else {
-                unreachable!()
-            };
-        }
-    }
-
     // Starts the helpers, works beside them, collects what they hand in, and joins them.
     fn run<E, R: Threads + Wait + Sync>(
         self,

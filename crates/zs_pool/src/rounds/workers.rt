@@ -1,5 +1,7 @@
-//! What each thread of a round does: it claims, polls and puts. Helpers are started and joined.
-ghost use Rattle.std.specs.Prelude.{◌≡◌, ◌≢◌, ◌-◌, All, IfOk, IfErr, [], length};
+//! What each thread of a round does: it claims, polls and puts. The calling thread also starts the
+//! helpers, takes what they put, and joins them.
+ghost use Rattle.std.specs.Prelude.{◌≡◌, ◌≢◌, ◌-◌, ◌≤◌, All, IfOk, IfErr, [], length};
+ghost use Rattle.std.specs.Vec.{vec_capacity};
 ghost use Rattle.zs_term.specs.Saturating.{max_moment};
 ghost use Rattle.zs_pool.specs.Board.{fresh_claimer};
 ghost use Rattle.zs_pool.specs.Shelf.{shelver};
@@ -13,10 +15,15 @@ use crate::polled::Polled;
 use crate::poller::Poller;
 use crate::polling::poll_in;
 use crate::rounds::shared::{Rights, Shared};
+use crate::shelf::ShelfPass;
 use std::alloc::{AllocError, Global};
 use std::snapshot::Snapshot;
 use std::sync::Wait;
+use std::thread;
 use std::thread::{Promise, PromisedHandle, Scope, Threads};
+
+// How often the calling thread may find the shelf empty before it waits for the helpers.
+const TRIES: u64 = 1000;
 
 // The messages for which the shelf had no room.
 pub(crate) type Overflow = Result<Vec<Polled>, AllocError>;
@@ -163,6 +170,30 @@ impl<'s, G: Gate> Shared<'s, G> {
             }
         }
         Ok((rights, workers))
+    }
+
+    // Takes messages from the shelf while the helpers work, until all are there or `TRIES` tries
+    // found it empty.
+    pub(crate) fn collect<R: Wait>(self, rt: &R, pass: &mut ShelfPass, messages: &mut Vec<Polled>)
+        requires shelf { pass.old.shelf ≡ self.shelf.now }
+        requires messages { pass.old.taken ≡ messages.old.items }
+        requires room { (length messages.old.items ≤ self.batches)
+            × (self.batches ≤ vec_capacity messages.old) }
+        ensures pass { (pass.new.shelf ≡ self.entry.shelf.now) × (pass.new.share ≡ pass.old.share)
+            × (pass.new.put ≡ pass.old.put) }
+        ensures messages { pass.new.taken ≡ messages.new.items }
+    {
+        let mut empty = 0;
+        while empty < TRIES && messages.len() < self.batches {
+            let Some(message) = self.shelf.take(rt, pass) else {
+                empty += 1;
+                thread::yield_now();
+                continue;
+            };
+            let Ok(()) = messages.push(message) else {
+                unreachable!()
+            };
+        }
     }
 
     // Joins all workers and their rights.

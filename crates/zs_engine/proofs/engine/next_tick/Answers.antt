@@ -1,7 +1,7 @@
 use Rattle.std.proofs.Common.{◌∙◌, ap, Option, ℕ}
 use Rattle.zs_engine.specs.Times.{ticks_of, next_of}
 use Rattle.zs_engine.proofs.ClockTicks.{first_tick-is}
-use Rattle.zs_engine.proofs.timers.next_tick.Goals as goal
+use Rattle.zs_engine.proofs.engine.next_tick.Goals as goal
 
 pub returns : goal.returns
 returns c = record {

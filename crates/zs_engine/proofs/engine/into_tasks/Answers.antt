@@ -2,7 +2,7 @@ use Rattle.std.proofs.Common.{◌≡◌, ◌∷◌, [], Some, refl, sym, ◌∙�
 use Rattle.std.specs.Vec.Iter.{into_iter_items}
 use Rattle.std.proofs.lemmas.List.{nil_from_length, map-append}
 use Rattle.zs_engine.proofs.SlotLemmas.{taken-next}
-use Rattle.zs_engine.proofs.slots.into_tasks.Goals as goal
+use Rattle.zs_engine.proofs.engine.into_tasks.Goals as goal
 
 pub loop-slot-init : goal.loop-slot-init
 loop-slot-init c = rw (c.in_ok-tasks.ensures.items, c.into_iter-slot-iterator.ensures.into_iter_gives.0) refl

@@ -1,6 +1,6 @@
 use Rattle.std.proofs.Common.{◌-◌, ◌+◌, ◌≡◌, ◌≤◌, false, vec_len}
 use Rattle.std.specs.Io.KnownBytes.{Consumes}
-use Rattle.zs_run.proofs.transfer.read_up_to.Given as goal
+use Rattle.zs_run.proofs.reading.read_up_to.Given as goal
 
 abbrev pub invariant-loop-chunk : goal.invariant-loop-chunk
 invariant-loop-chunk g l =
