@@ -7,27 +7,27 @@ use Rattle.zs_step.specs.Answer.{Answer, answer, is_next, only_if, later_of, ear
 use Rattle.zs_bounds.specs.declared.span.Span.{Span}
 use Rattle.zs_bounds.specs.DecisionRange.{both_decide, either_decides, may_go_on, going_on}
 use Rattle.zs_bounds.specs.OutputRange.{may_pass, may_fail, nothing, sides}
-use Rattle.zs_bounds.specs.AnswerRange.{AnswerRange, range, IsAnswerIn, answer_hull, answers_if, pair_range, left_range, right_range, test_range, any_input, reset_range}
+use Rattle.zs_bounds.specs.AnswerRange.{AnswerRange, range, IsAnswerIn, result_hull, results_if, pair_range, left_range, right_range, test_range, any_input, reset_range}
 use Rattle.zs_bounds.proofs.Spans.{IsNumberIn, test-may_pass, test-may_fail}
 use Rattle.zs_bounds.proofs.Deciding.{decision-left, decision-right, both-in, either-in, test-in, going_on-in, next-may}
 use Rattle.zs_bounds.proofs.Outputs.{output-left, output-right}
 
-pub answer-left : (m : ℕ) (a : Answer) (r q : AnswerRange) → IsAnswerIn m a r → IsAnswerIn m a (answer_hull r q)
+pub answer-left : (m : ℕ) (a : Answer) (r q : AnswerRange) → IsAnswerIn m a r → IsAnswerIn m a (result_hull r q)
 answer-left m a r q h = record {
   output = output-left a.output r.output q.output h.output;
   decision = decision-left m a.decision r.decision q.decision h.decision;
 }
 
-pub answer-right : (m : ℕ) (a : Answer) (r q : AnswerRange) → IsAnswerIn m a q → IsAnswerIn m a (answer_hull r q)
+pub answer-right : (m : ℕ) (a : Answer) (r q : AnswerRange) → IsAnswerIn m a q → IsAnswerIn m a (result_hull r q)
 answer-right m a r q h = record {
   output = output-right a.output r.output q.output h.output;
   decision = decision-right m a.decision r.decision q.decision h.decision;
 }
 
 -- results under a fact that holds
-pub answers_if-in : (m : ℕ) (b : Bool) (a : Answer) (r : AnswerRange) → b ≡ true → IsAnswerIn m a r → IsAnswerIn m a (answers_if b r)
-answers_if-in m true a r e h = h
-answers_if-in m false a r e h = cc
+pub results_if-in : (m : ℕ) (b : Bool) (a : Answer) (r : AnswerRange) → b ≡ true → IsAnswerIn m a r → IsAnswerIn m a (results_if b r)
+results_if-in m true a r e h = h
+results_if-in m false a r e h = cc
 
 -- `&&`
 pub pair_both-in : (m : ℕ) (a b : Answer) (r q : AnswerRange) → IsAnswerIn m a r → IsAnswerIn m b q →
@@ -49,7 +49,7 @@ pair_either-in m a b r q g h = record {
 pub left_range-in : (m : ℕ) (a : Answer) (r : AnswerRange) → is_next a.decision ≡ true → IsAnswerIn m a r →
     IsAnswerIn m (answer (left a.output) a.decision) (left_range r)
 left_range-in m a r next h =
-    answers_if-in m (may_go_on r.decision) (answer (left a.output) a.decision) (range (sides r.output nothing) (going_on r.decision))
+    results_if-in m (may_go_on r.decision) (answer (left a.output) a.decision) (range (sides r.output nothing) (going_on r.decision))
     (next-may m a.decision r.decision h.decision next)
     (record {
       output = h.output;

@@ -10,7 +10,7 @@ use Rattle.zs_bounds.specs.declared.span.Span.{Span}
 use Rattle.zs_bounds.specs.declared.decisions.Decisions.{Decisions}
 use Rattle.zs_bounds.specs.DecisionRange.{may_go_on, decisions, test_decides}
 use Rattle.zs_bounds.specs.OutputRange.{OutputRange, nothing, numbers, pairs, sides, lists, anything, output_hull, first_range_in, second_range_in, merge_range, number_span, picked_span, may_pass, may_fail, applied_range}
-use Rattle.zs_bounds.specs.AnswerRange.{AnswerRange, range, answers_if, left_range, right_range, reset_range}
+use Rattle.zs_bounds.specs.AnswerRange.{AnswerRange, range, results_if, left_range, right_range, reset_range}
 use Rattle.zs_bounds.specs.StateRange.{turn_range}
 use Rattle.zs_bounds.specs.Reads.{Want, unread, whole, parts_of, sides_of, read_range, range_if, left_range_in, right_range_in, reset_output, with_first, with_second, with_pick, func_want, map_want, first_want, second_want, side_want}
 
@@ -290,13 +290,13 @@ sides-joined false false false a b f = refl
 
 -- the left side
 left-is : (p : Bool) (a : OutputRange) (s : Bool) (w : Option Span) →
-    (answers_if p (left_range (range a (decisions s w)))).output ≡ range_if (p && may_go_on (decisions s w)) (sides a nothing)
+    (results_if p (left_range (range a (decisions s w)))).output ≡ range_if (p && may_go_on (decisions s w)) (sides a nothing)
 left-is true a s (Some t) = refl
 left-is true a s None = refl
 left-is false a s w = refl
 
 -- the right side
-right-is : (q : Bool) (b : AnswerRange) → (answers_if q (right_range b)).output ≡ range_if q (sides nothing b.output)
+right-is : (q : Bool) (b : AnswerRange) → (results_if q (right_range b)).output ≡ range_if q (sides nothing b.output)
 right-is true b = refl
 right-is false b = refl
 
@@ -308,9 +308,9 @@ turn-is : (p q : Bool) (a b f : AnswerRange) →
 turn-is p q a b f =
     let g = p && may_go_on a.decision in
     let h = p && a.decision.stops in
-    ap (λ x. output_hull (output_hull x (answers_if q (right_range b)).output) (answers_if h (right_range f)).output)
+    ap (λ x. output_hull (output_hull x (results_if q (right_range b)).output) (results_if h (right_range f)).output)
     (left-is p a.output a.decision.stops a.decision.waits)
-    ∙ ap (λ x. output_hull (output_hull (range_if g (sides a.output nothing)) x) (answers_if h (right_range f)).output) (right-is q b)
+    ∙ ap (λ x. output_hull (output_hull (range_if g (sides a.output nothing)) x) (results_if h (right_range f)).output) (right-is q b)
     ∙ ap (λ x. output_hull (output_hull (range_if g (sides a.output nothing)) (range_if q (sides nothing b.output))) x) (right-is h f)
     ∙ sides-joined g q h a.output b.output f.output
 

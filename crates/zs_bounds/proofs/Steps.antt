@@ -12,13 +12,13 @@ use Rattle.zs_bounds.specs.Driven.{IsStep}
 use Rattle.zs_bounds.specs.Span.{IsIn, span}
 use Rattle.zs_bounds.specs.DecisionRange.{may_go_on}
 use Rattle.zs_bounds.specs.OutputRange.{picked_span, may_pass, may_fail}
-use Rattle.zs_bounds.specs.AnswerRange.{AnswerRange, IsAnswerIn, answer_hull, answers_if, left_range, right_range, any_input, reset_range}
+use Rattle.zs_bounds.specs.AnswerRange.{AnswerRange, IsAnswerIn, result_hull, results_if, left_range, right_range, any_input, reset_range}
 use Rattle.zs_bounds.specs.StateRange.{StateRange, steps_in, time_in, first_in, second_in, is_first_on, is_second_on, items_in, part_in, first_turn, first_range, first_state, with_first, begun, turn_range, more_items, more_steps, more_time, next_range, next_state}
 use Rattle.zs_bounds.proofs.Spans.{or-left, or-right, and-both, and-left, and-right, in-itself, in-hull_left, in-hull_right, test-may_pass, test-may_fail}
 use Rattle.zs_bounds.proofs.Deciding.{next-may, stop-may}
 use Rattle.zs_bounds.proofs.Outputs.{picked-in, applied-in}
 use Rattle.zs_bounds.proofs.LeafRanges.{leaf-in}
-use Rattle.zs_bounds.proofs.Answering.{answer-left, answer-right, answers_if-in, pair_both-in, pair_either-in, left_range-in, right_range-in, test_range-in, input-in, reset-first, reset-goes_on}
+use Rattle.zs_bounds.proofs.Answering.{answer-left, answer-right, results_if-in, pair_both-in, pair_either-in, left_range-in, right_range-in, test_range-in, input-in, reset-first, reset-goes_on}
 use Rattle.zs_bounds.proofs.Covers.{TurnCovers, Covers, Comes, counts-first, counts-keeps, counts-begins, counts-next, more_items-in, count-collected, from_done-moment, from_done-length, since_reset-moment, since_reset-length, since_reset-first, comes-part, begun-keeps, begun-begins, chosen}
 
 -- ---- the first step
@@ -27,10 +27,10 @@ use Rattle.zs_bounds.proofs.Covers.{TurnCovers, Covers, Comes, counts-first, cou
 first_turn-in : (p : ℕ × ℕ) (a b : History → Answer) (r q : AnswerRange) (n : Bool) → is_next (a (p ∷ [])).decision ≡ n →
     IsAnswerIn p.0 (a (p ∷ [])) r → IsAnswerIn p.0 (b (p ∷ [])) q → IsAnswerIn p.0 (sequel_of (done_from None p n) (a (p ∷ [])) b) (first_turn r q)
 first_turn-in p a b r q true next g h =
-    answer-left p.0 _ (left_range r) (answers_if r.decision.stops (right_range q)) (left_range-in p.0 (a (p ∷ [])) r next g)
+    answer-left p.0 _ (left_range r) (results_if r.decision.stops (right_range q)) (left_range-in p.0 (a (p ∷ [])) r next g)
 first_turn-in p a b r q false next g h =
-    answer-right p.0 _ (left_range r) (answers_if r.decision.stops (right_range q))
-    (answers_if-in p.0 r.decision.stops _ (right_range q) (stop-may p.0 (a (p ∷ [])).decision r.decision g.decision next) (right_range-in p.0 (b (p ∷ [])) q h))
+    answer-right p.0 _ (left_range r) (results_if r.decision.stops (right_range q))
+    (results_if-in p.0 r.decision.stops _ (right_range q) (stop-may p.0 (a (p ∷ [])).decision r.decision g.decision next) (right_range-in p.0 (b (p ∷ [])) q h))
 
 -- the result of the first step
 pub first-in : (s : Schedule) (p : ℕ × ℕ) → has_factors s ≡ true → IsStep p → IsAnswerIn p.0 (answer_of s (p ∷ [])) (first_range s)
@@ -180,21 +180,21 @@ turn-in : (p : ℕ × ℕ) (h : History) (a b : History → Answer) (o : Option 
     ((g : History) → o ≡ Some g → second g → IsAnswerIn p.0 (b (p ∷ g)) q) → IsAnswerIn p.0 (b (p ∷ [])) begins →
     IsAnswerIn p.0 (sequel_of (done_from o p n) (a (p ∷ h)) b) (turn_range on_a on_b r q begins)
 turn-in p h a b None true on_a on_b r q begins first second next covers f g k =
-    answer-left p.0 _ (answer_hull (answers_if on_a (left_range r)) (answers_if on_b (right_range q)))
-    (answers_if (on_a && r.decision.stops) (right_range begins))
-    (answer-left p.0 _ (answers_if on_a (left_range r)) (answers_if on_b (right_range q))
-    (answers_if-in p.0 on_a _ (left_range r) covers.0 (left_range-in p.0 (a (p ∷ h)) r next (f covers.1))))
+    answer-left p.0 _ (result_hull (results_if on_a (left_range r)) (results_if on_b (right_range q)))
+    (results_if (on_a && r.decision.stops) (right_range begins))
+    (answer-left p.0 _ (results_if on_a (left_range r)) (results_if on_b (right_range q))
+    (results_if-in p.0 on_a _ (left_range r) covers.0 (left_range-in p.0 (a (p ∷ h)) r next (f covers.1))))
 turn-in p h a b None false on_a on_b r q begins first second next covers f g k =
-    answer-right p.0 _ (answer_hull (answers_if on_a (left_range r)) (answers_if on_b (right_range q)))
-    (answers_if (on_a && r.decision.stops) (right_range begins))
-    (answers_if-in p.0 (on_a && r.decision.stops) _ (right_range begins)
+    answer-right p.0 _ (result_hull (results_if on_a (left_range r)) (results_if on_b (right_range q)))
+    (results_if (on_a && r.decision.stops) (right_range begins))
+    (results_if-in p.0 (on_a && r.decision.stops) _ (right_range begins)
     (and-both on_a r.decision.stops covers.0 (stop-may p.0 (a (p ∷ h)).decision r.decision (f covers.1).decision next))
     (right_range-in p.0 (b (p ∷ [])) begins k))
 turn-in p h a b (Some part) n on_a on_b r q begins first second next covers f g k =
-    answer-left p.0 _ (answer_hull (answers_if on_a (left_range r)) (answers_if on_b (right_range q)))
-    (answers_if (on_a && r.decision.stops) (right_range begins))
-    (answer-right p.0 _ (answers_if on_a (left_range r)) (answers_if on_b (right_range q))
-    (answers_if-in p.0 on_b _ (right_range q) covers.0 (right_range-in p.0 (b (p ∷ part)) q (g part refl covers.1))))
+    answer-left p.0 _ (result_hull (results_if on_a (left_range r)) (results_if on_b (right_range q)))
+    (results_if (on_a && r.decision.stops) (right_range begins))
+    (answer-right p.0 _ (results_if on_a (left_range r)) (results_if on_b (right_range q))
+    (results_if-in p.0 on_b _ (right_range q) covers.0 (right_range-in p.0 (b (p ∷ part)) q (g part refl covers.1))))
 
 -- a part that may be reset
 reset-in : (p : ℕ × ℕ) (g : History) (f : History → Answer) (k : Pick) (t : Test) (r first : AnswerRange) (n : Bool) →

@@ -35,17 +35,17 @@ pub record IsAnswerIn (m : ℕ) (a : Answer) (r : AnswerRange) : Type 0 where
   pub decision : IsDecisionIn m a.decision r.decision
 
 -- the results of one or the other
-abbrev pub answer_hull : AnswerRange → AnswerRange → AnswerRange
-answer_hull a b = range (output_hull a.output b.output) (decision_hull a.decision b.decision)
+abbrev pub result_hull : AnswerRange → AnswerRange → AnswerRange
+result_hull a b = range (output_hull a.output b.output) (decision_hull a.decision b.decision)
 
 -- no result
-abbrev pub no_answer : AnswerRange
-no_answer = range nothing no_decision
+abbrev pub no_result : AnswerRange
+no_result = range nothing no_decision
 
 -- results, if a fact holds
-abbrev pub answers_if : Bool → AnswerRange → AnswerRange
-answers_if true r = r
-answers_if false r = no_answer
+abbrev pub results_if : Bool → AnswerRange → AnswerRange
+results_if true r = r
+results_if false r = no_result
 
 -- ---- leaves: by the number of steps with this one, and the time since the first one
 
@@ -66,8 +66,8 @@ abbrev pub always : Option Span → Decisions
 always w = decisions false w
 
 -- results whose output is their delay
-abbrev pub waiting : Span → AnswerRange
-waiting s = range (numbers s) (always (delays s))
+abbrev pub waits : Span → AnswerRange
+waits s = range (numbers s) (always (delays s))
 
 -- the numbers of earlier steps
 abbrev pub earlier_steps : Span → Span
@@ -90,11 +90,11 @@ leaf_range (counted Recurs k) n t =
     (decisions (nat_le k (n.high - 1)) (if nat_lt (n.low - 1) k then at_once else None))
 leaf_range (counted Spaced d) n t = range (numbers (earlier_steps n)) (always (delays (span d d)))
 leaf_range (counted Fixed p) n t = range (numbers (earlier_steps n)) (always (period_waits p 0 n))
-leaf_range (exponential b f) n t = waiting (span_of (λ k. saturated (b * f ^ k)) (earlier_steps n))
-leaf_range (counted Fibonacci o) n t = waiting (span_of (λ k. saturated (o * fibonacci_number k)) n)
+leaf_range (exponential b f) n t = waits (span_of (λ k. saturated (b * f ^ k)) (earlier_steps n))
+leaf_range (counted Fibonacci o) n t = waits (span_of (λ k. saturated (o * fibonacci_number k)) n)
 leaf_range (plain Identity) n t = range (numbers (span 0 max_moment)) (always at_once)
 leaf_range (plain Elapsed) n t = range (numbers t) (always at_once)
-leaf_range (counted Linear b) n t = waiting (span_of (λ k. saturated (b * k)) n)
+leaf_range (counted Linear b) n t = waits (span_of (λ k. saturated (b * k)) n)
 leaf_range (counted Windowed p) n t =
     range (numbers (earlier_steps n)) (always (period_waits p 1 n))
 
@@ -108,7 +108,7 @@ pair_range f a b = range (pairs a.output b.output) (f a.decision b.decision)
 -- the results of a first part that goes on
 abbrev pub left_range : AnswerRange → AnswerRange
 left_range a =
-    answers_if (may_go_on a.decision) (range (sides a.output nothing) (going_on a.decision))
+    results_if (may_go_on a.decision) (range (sides a.output nothing) (going_on a.decision))
 
 -- the results of a second part
 abbrev pub right_range : AnswerRange → AnswerRange
@@ -124,7 +124,7 @@ any_input = Some (span 0 max_moment)
 
 -- the results of a part, or those of its first step, if a test may pass
 abbrev pub reset_range : Bool → Bool → AnswerRange → AnswerRange → AnswerRange
-reset_range true true a first = answer_hull a first
+reset_range true true a first = result_hull a first
 reset_range true false a first = first
 reset_range false fails a first = a
 

@@ -17,5 +17,5 @@ output_range_of (Lists s) = lists s
 output_range_of Anything = anything
 
 -- and of a result
-abbrev pub answer_range : OutRange × Decisions → AnswerRange
-answer_range r = range (output_range_of r.0) r.1
+abbrev pub result_range : OutRange × Decisions → AnswerRange
+result_range r = range (output_range_of r.0) r.1

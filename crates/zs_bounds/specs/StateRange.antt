@@ -12,7 +12,7 @@ use Rattle.zs_bounds.specs.Driven.{max_tick}
 use Rattle.zs_bounds.specs.Span.{span, hull}
 use Rattle.zs_bounds.specs.DecisionRange.{may_go_on, both_decide, either_decides}
 use Rattle.zs_bounds.specs.OutputRange.{picked_span, may_pass, may_fail}
-use Rattle.zs_bounds.specs.AnswerRange.{AnswerRange, answer_hull, answers_if, leaf_range}
+use Rattle.zs_bounds.specs.AnswerRange.{AnswerRange, result_hull, results_if, leaf_range}
 use Rattle.zs_bounds.specs.AnswerRange.{pair_range, left_range, right_range, modified_range}
 
 -- The shape of a schedule's state. A leaf has its number of steps and the time since the first one.
@@ -73,7 +73,7 @@ part_in c = c
 -- the results of a first part, or those of a second part's first step if the first may be done at
 -- once
 abbrev pub first_turn : AnswerRange → AnswerRange → AnswerRange
-first_turn a b = answer_hull (left_range a) (answers_if a.decision.stops (right_range b))
+first_turn a b = result_hull (left_range a) (results_if a.decision.stops (right_range b))
 
 -- what the first step may return
 abbrev pub first_range : Schedule → AnswerRange
@@ -147,9 +147,9 @@ with_first (over s (reset_when k t)) c = with_first s c
 -- of the second's first step if the first may be done.
 abbrev pub turn_range : Bool → Bool → AnswerRange → AnswerRange → AnswerRange → AnswerRange
 turn_range first_on second_on a b begins =
-    answer_hull
-    (answer_hull (answers_if first_on (left_range a)) (answers_if second_on (right_range b)))
-    (answers_if (first_on && a.decision.stops) (right_range begins))
+    result_hull
+    (result_hull (results_if first_on (left_range a)) (results_if second_on (right_range b)))
+    (results_if (first_on && a.decision.stops) (right_range begins))
 
 -- one more step
 abbrev pub more_steps : Span → Span

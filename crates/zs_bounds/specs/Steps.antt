@@ -11,7 +11,7 @@ use Rattle.zs_bounds.specs.declared.span.Span.{Span}
 use Rattle.zs_bounds.specs.declared.reads.Reads.{Reads}
 use Rattle.zs_bounds.specs.declared.turns.Turn.{Turn}
 use Rattle.zs_bounds.specs.declared.turns.Turns.{Turns}
-use Rattle.zs_bounds.specs.AnswerRange.{AnswerRange, range, answers_if, left_range}
+use Rattle.zs_bounds.specs.AnswerRange.{AnswerRange, range, results_if, left_range}
 use Rattle.zs_bounds.specs.AnswerRange.{right_range}
 use Rattle.zs_bounds.specs.BoundsOf.{bounds_from, no_bounds}
 use Rattle.zs_bounds.specs.DecisionRange.{may_go_on}
@@ -81,12 +81,12 @@ may_end t n d = t.is_on && (part_range t n d).decision.stops
 abbrev pub first_turn_range : Turn → Node → Span → AnswerRange
 first_turn_range t n d =
     range (range_if (stays_on t n d) (part_range t n d).output)
-    (answers_if t.is_on (left_range (part_range t n d))).decision
+    (results_if t.is_on (left_range (part_range t n d))).decision
 
 abbrev pub second_turn_range : Turn → Node → Span → AnswerRange
 second_turn_range t n d =
     range (range_if t.is_on (part_range t n d).output)
-    (answers_if t.is_on (right_range (part_range t n d))).decision
+    (results_if t.is_on (right_range (part_range t n d))).decision
 
 -- ---- states after the step
 

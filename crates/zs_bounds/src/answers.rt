@@ -2,8 +2,8 @@
 //! of their parts.
 
 ghost use Rattle.std.specs.Prelude.{◌≡◌, IfOk};
-ghost use Rattle.zs_bounds.specs.OutRange.{answer_range};
-ghost use Rattle.zs_bounds.specs.AnswerRange.{answer_hull, no_answer, left_range, right_range, test_range};
+ghost use Rattle.zs_bounds.specs.OutRange.{result_range};
+ghost use Rattle.zs_bounds.specs.AnswerRange.{result_hull, no_result, left_range, right_range, test_range};
 
 use crate::decisions::Decisions;
 use crate::ranges::{OutRange, join, make_sides};
@@ -15,15 +15,15 @@ use zs_term::Test;
 pub(crate) type AnswerRange = (OutRange, Decisions);
 
 // No result.
-pub(crate) fn no_answer() -> AnswerRange
-    ensures value { answer_range result ≡ no_answer }
+pub(crate) fn no_result() -> AnswerRange
+    ensures value { result_range result ≡ no_result }
 {
     (OutRange::Nothing, Decisions::nothing())
 }
 
 // The results of one or the other.
-pub(crate) fn answer_hull(first: AnswerRange, second: AnswerRange) -> AnswerRange
-    ensures value { answer_range result ≡ answer_hull (answer_range first) (answer_range second) }
+pub(crate) fn result_hull(first: AnswerRange, second: AnswerRange) -> AnswerRange
+    ensures value { result_range result ≡ result_hull (result_range first) (result_range second) }
 {
     let (mut x, d) = first;
     let (y, e) = second;
@@ -33,11 +33,11 @@ pub(crate) fn answer_hull(first: AnswerRange, second: AnswerRange) -> AnswerRang
 
 // The results of a first part that goes on.
 pub(crate) fn left_range(alloc: Global, answer: AnswerRange) -> Result<AnswerRange, AllocError>
-    ensures value { IfOk result (λ r. answer_range r ≡ left_range (answer_range answer)) }
+    ensures value { IfOk result (λ r. result_range r ≡ left_range (result_range answer)) }
 {
     let (out, decision) = answer;
     if !decision.may_go_on() {
-        return Ok(no_answer());
+        return Ok(no_result());
     }
     Ok((
         make_sides(alloc, out, OutRange::Nothing)?,
@@ -47,7 +47,7 @@ pub(crate) fn left_range(alloc: Global, answer: AnswerRange) -> Result<AnswerRan
 
 // The results of a second part.
 pub(crate) fn right_range(alloc: Global, answer: AnswerRange) -> Result<AnswerRange, AllocError>
-    ensures value { IfOk result (λ r. answer_range r ≡ right_range (answer_range answer)) }
+    ensures value { IfOk result (λ r. result_range r ≡ right_range (result_range answer)) }
 {
     let (out, decision) = answer;
     Ok((make_sides(alloc, OutRange::Nothing, out)?, decision))
@@ -55,7 +55,7 @@ pub(crate) fn right_range(alloc: Global, answer: AnswerRange) -> Result<AnswerRa
 
 // The results under a test of a number of a span, if there is one.
 pub(crate) fn test_range(test: Test, span: Option<Span>, answer: AnswerRange) -> AnswerRange
-    ensures value { answer_range result ≡ test_range test span (answer_range answer) }
+    ensures value { result_range result ≡ test_range test span (result_range answer) }
 {
     let (out, decision) = answer;
     (out, decision.under(test, span))

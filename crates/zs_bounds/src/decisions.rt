@@ -1,13 +1,13 @@
-//! What a step may decide, and how the operators join it.
+//! What a step may decide, how the operators join it, and whether a test may pass.
 
 ghost use Rattle.std.specs.Prelude.{◌≡◌, false};
 ghost use Rattle.zs_bounds.specs.AnswerRange.{range, reset_range};
-ghost use Rattle.zs_bounds.specs.OutputRange.{nothing, may_fail, may_pass};
+ghost use Rattle.zs_bounds.specs.OutputRange.{nothing, may_compare, may_fail, may_pass, opposite};
+ghost use Rattle.zs_bounds.specs.StateRange.{more_items};
 ghost use Rattle.zs_bounds.specs.DecisionRange.{may_go_on, wait_hull, later_waits, earlier_waits, waits_if, decisions, decision_hull, both_decide, either_decides, test_decides, no_decision};
 
-use crate::ranges::{may_fail, may_pass};
 use crate::span::Span;
-use zs_term::Test;
+use zs_term::{Cmp, Test};
 
 // Whether a step may be the last one, and after which waits it may go on, if it may.
 #[derive(Clone, Copy, Debug, PartialEq, Eq)]
@@ -127,4 +127,69 @@ fn waits_if(holds: bool, waits: Option<Span>) -> Option<Span>
     ensures value { result ≡ waits_if holds waits }
 {
     if holds { waits } else { None }
+}
+
+// Whether a test of a number of a span may pass.
+pub(crate) fn may_pass(test: Test, span: Option<Span>) -> bool
+    ensures value { result ≡ may_pass test span }
+{
+    match span {
+        None => true,
+        Some(s) => may_compare(test.cmp, s, test.than),
+    }
+}
+
+// Whether it may fail.
+pub(crate) fn may_fail(test: Test, span: Option<Span>) -> bool
+    ensures value { result ≡ may_fail test span }
+{
+    match span {
+        None => true,
+        Some(s) => may_compare(opposite(test.cmp), s, test.than),
+    }
+}
+
+// Whether a comparison may hold of a number of a span.
+fn may_compare(cmp: Cmp, span: Span, than: u64) -> bool
+    ensures value { result ≡ may_compare cmp span than }
+{
+    match cmp {
+        Cmp::Lt => span.low < than,
+        Cmp::Le => span.low <= than,
+        Cmp::Eq => span.low <= than && than <= span.high,
+        Cmp::Ne => !(span.low == than && span.high == than),
+        Cmp::Gt => than < span.high,
+        Cmp::Ge => than <= span.high,
+    }
+}
+
+// The comparison that holds if another one doesn't.
+fn opposite(cmp: Cmp) -> Cmp
+    ensures value { result ≡ opposite cmp }
+{
+    match cmp {
+        Cmp::Lt => Cmp::Ge,
+        Cmp::Le => Cmp::Gt,
+        Cmp::Eq => Cmp::Ne,
+        Cmp::Ne => Cmp::Eq,
+        Cmp::Gt => Cmp::Le,
+        Cmp::Ge => Cmp::Lt,
+    }
+}
+
+// One more item at a step that goes on.
+pub(crate) fn more_items(decision: Decisions, items: Span) -> Span
+    ensures value { result ≡ more_items decision items }
+{
+    let low = if decision.stops {
+        items.low
+    } else {
+        items.low.saturating_add(1)
+    };
+    let high = if decision.may_go_on() {
+        items.high.saturating_add(1)
+    } else {
+        items.high
+    };
+    Span::new(low, high)
 }

@@ -5,8 +5,8 @@ ghost use Rattle.std.specs.Prelude.{◌≡◌, ◌*◌, ◌^◌, None, nat_le, n
 ghost use Rattle.zs_term.specs.Saturating.{saturated};
 ghost use Rattle.zs_step.specs.Answer.{fibonacci_number};
 ghost use Rattle.zs_bounds.specs.DecisionRange.{decisions};
-ghost use Rattle.zs_bounds.specs.AnswerRange.{leaf_range, waiting, period_waits, at_once};
-ghost use Rattle.zs_bounds.specs.OutRange.{answer_range};
+ghost use Rattle.zs_bounds.specs.AnswerRange.{leaf_range, waits, period_waits, at_once};
+ghost use Rattle.zs_bounds.specs.OutRange.{result_range};
 ghost use Rattle.zs_bounds.specs.Leaf.{bare_leaf};
 
 use crate::answers::AnswerRange;
@@ -38,25 +38,25 @@ fn at_once() -> Option<Span>
 
 // The results of a leaf, by its number of steps with this one, and the time since the first one.
 pub(crate) fn leaf_range(leaf: Leaf, steps: Span, time: Span) -> AnswerRange
-    ensures value { answer_range result ≡ leaf_range (bare_leaf leaf) steps time }
+    ensures value { result_range result ≡ leaf_range (bare_leaf leaf) steps time }
 {
     let earlier = steps.earlier();
     let count = OutRange::Numbers(earlier);
     match leaf {
         Leaf::Forever => (count, Decisions::always(at_once())),
-        Leaf::Recurs(k) => (count, recurring(k, earlier)),
+        Leaf::Recurs(k) => (count, recurs_decision(k, earlier)),
         Leaf::Spaced(delay) => (count, Decisions::always(Span::one(delay).delays())),
         Leaf::Fixed(period) => (count, Decisions::always(period_waits(period, 0, steps))),
         Leaf::Windowed(period) => (count, Decisions::always(period_waits(period, 1, steps))),
-        Leaf::Exponential(base, factor) => waiting(Span::new(
+        Leaf::Exponential(base, factor) => waits(Span::new(
             power(base, factor, earlier.low),
             power(base, factor, earlier.high),
         )),
-        Leaf::Fibonacci(one) => waiting(Span::new(
+        Leaf::Fibonacci(one) => waits(Span::new(
             fibonacci(one, steps.low),
             fibonacci(one, steps.high),
         )),
-        Leaf::Linear(unit) => waiting(Span::new(
+        Leaf::Linear(unit) => waits(Span::new(
             unit.saturating_mul(steps.low),
             unit.saturating_mul(steps.high),
         )),
@@ -69,7 +69,7 @@ pub(crate) fn leaf_range(leaf: Leaf, steps: Span, time: Span) -> AnswerRange
 }
 
 // What `recurs` decides, by the number of earlier steps.
-fn recurring(k: u64, earlier: Span) -> Decisions
+fn recurs_decision(k: u64, earlier: Span) -> Decisions
     ensures value { result
         ≡ decisions (nat_le k earlier.high) (if nat_lt earlier.low k then at_once else None) }
 {
@@ -78,8 +78,8 @@ fn recurring(k: u64, earlier: Span) -> Decisions
 }
 
 // Results whose output is their delay.
-fn waiting(delays: Span) -> AnswerRange
-    ensures value { answer_range result ≡ waiting delays }
+fn waits(delays: Span) -> AnswerRange
+    ensures value { result_range result ≡ waits delays }
 {
     (
         OutRange::Numbers(delays),

@@ -24,6 +24,7 @@ mod leaves;
 mod node;
 mod ranges;
 mod reads;
+mod refreshing;
 mod span;
 mod stepping;
 mod told;

@@ -2,18 +2,17 @@
 
 ghost use Rattle.std.specs.Prelude.{◌≡◌, IfOk};
 ghost use Rattle.zs_term.specs.Schedule.{schedule_of, leaf, over, collect_all, reset_when};
-ghost use Rattle.zs_bounds.specs.AnswerRange.{any_input};
-ghost use Rattle.zs_bounds.specs.StateRange.{first_state, more_items};
+ghost use Rattle.zs_bounds.specs.StateRange.{first_state};
 ghost use Rattle.zs_bounds.specs.Leaf.{bare_leaf};
-ghost use Rattle.zs_bounds.specs.Node.{node_begun, node_schedule, node_state, fresh_state, in_turn, IsMade, IsMadeNode, KnowsFirsts, SameNode};
+ghost use Rattle.zs_bounds.specs.Node.{node_schedule, in_turn, IsMade, IsMadeNode};
 
-use crate::answers::{AnswerRange, answer_hull, left_range, no_answer, right_range, test_range};
-use crate::decisions::Decisions;
+use crate::answers::{AnswerRange, left_range, no_result, result_hull, right_range, test_range};
+use crate::decisions::{Decisions, more_items};
 use crate::leaves::{Leaf, leaf_range};
 use crate::ranges::{OutRange, func_range, make_pairs, picked_span};
 use crate::reads::{Reads, copy_read};
-use crate::span::Span;
-use crate::turns::{Fresh, ResetRule, Turn, Turns};
+use crate::span::{Span, any_input};
+use crate::turns::{ResetRule, Turn, Turns};
 use std::alloc::{AllocError, Global};
 use zs_term::{Func, Pick, Term, Test};
 
@@ -32,13 +31,6 @@ pub(crate) enum Node {
     Map(Box<Node>, Func),
     // The part's first step: what it may decide, and return as its output.
     ResetWhen(Box<Node>, ResetRule, Decisions, OutRange),
-}
-
-// All inputs.
-pub(crate) fn any_input() -> Option<Span>
-    ensures value { result ≡ any_input }
-{
-    Some(Span::new(0, u64::MAX))
 }
 
 // A node after its first step, and what that step may return.
@@ -87,12 +79,12 @@ pub(crate) fn node_of(alloc: Global, term: &Term) -> Result<Made, AllocError>
                 test_range(*test, span, x),
             ))
         }
-        Term::CollectAll(s) => Ok(collecting(part(alloc, s)?)),
+        Term::CollectAll(s) => Ok(collect_node(part(alloc, s)?)),
         Term::Map(s, func) => {
             let (part, (out, decision)) = part(alloc, s)?;
             Ok((Node::Map(part, *func), (func_range(*func, out), decision)))
         }
-        Term::ResetWhen(s, pick, test) => resettable(alloc, part(alloc, s)?, *pick, *test),
+        Term::ResetWhen(s, pick, test) => reset_node(alloc, part(alloc, s)?, *pick, *test),
     }
 }
 
@@ -126,7 +118,7 @@ fn in_turn(alloc: Global, first: MadePart, second: MadePart) -> Result<Made, All
     let right = if decision.stops {
         right_range(alloc, (copy_read(alloc, &Reads::Whole, &start)?, begins))?
     } else {
-        no_answer()
+        no_result()
     };
     let turns = Turns {
         first: Turn::first(decision.may_go_on(), decision),
@@ -136,12 +128,12 @@ fn in_turn(alloc: Global, first: MadePart, second: MadePart) -> Result<Made, All
     };
     Ok((
         Node::AndThen(turns, first, second),
-        answer_hull(left, right),
+        result_hull(left, right),
     ))
 }
 
 // A part whose outputs are collected.
-fn collecting(made: MadePart) -> Made
+fn collect_node(made: MadePart) -> Made
     requires part { IsMadeNode made.0.value made.1 }
     ensures made { IsMade (over (node_schedule made.0.value) collect_all) result.0 result.1 }
 {
@@ -155,7 +147,7 @@ fn collecting(made: MadePart) -> Made
 }
 
 // A part that may be reset.
-fn resettable(alloc: Global, made: MadePart, pick: Pick, test: Test) -> Result<Made, AllocError>
+fn reset_node(alloc: Global, made: MadePart, pick: Pick, test: Test) -> Result<Made, AllocError>
     requires part { IsMadeNode made.0.value made.1 }
     ensures made { IfOk result (λ r.
         IsMade (over (node_schedule made.0.value) (reset_when pick test)) r.0 r.1) }
@@ -164,72 +156,4 @@ fn resettable(alloc: Global, made: MadePart, pick: Pick, test: Test) -> Result<M
     let out = copy_read(alloc, &Reads::Whole, &start)?;
     let rule = ResetRule { pick, test };
     Ok((Node::ResetWhen(part, rule, begins, start), (out, begins)))
-}
-
-// One more item at a step that goes on.
-pub(crate) fn more_items(decision: Decisions, items: Span) -> Span
-    ensures value { result ≡ more_items decision items }
-{
-    let low = if decision.stops {
-        items.low
-    } else {
-        items.low.saturating_add(1)
-    };
-    let high = if decision.may_go_on() {
-        items.high.saturating_add(1)
-    } else {
-        items.high
-    };
-    Span::new(low, high)
-}
-
-// Adds to a node's states what they still lack.
-#[tactic(auto, using(crate::proofs::Fresh::fresh_counts, crate::proofs::Fresh::fresh_both, crate::proofs::Fresh::fresh_either, crate::proofs::Fresh::fresh_turns, crate::proofs::Fresh::fresh_items, crate::proofs::Fresh::fresh_input, crate::proofs::Fresh::fresh_output, crate::proofs::Fresh::fresh_mapped, crate::proofs::Fresh::fresh_reset))]
-pub(crate) fn refresh(fresh: Fresh, node: &mut Node)
-    requires firsts { KnowsFirsts node.old }
-    ensures state { node_state node.new
-        ≡ fresh_state fresh (node_schedule node.old) (node_state node.old) }
-    ensures same { SameNode node.old node.new }
-{
-    if let Fresh::Nothing = fresh {
-        return;
-    }
-    match node {
-        Node::Leaf(_, steps, time) => {
-            *steps = fresh.widen(*steps, Span::one(1));
-            *time = fresh.widen(*time, Span::one(0));
-        }
-        Node::Both(first, second) => {
-            refresh(fresh, first);
-            refresh(fresh, second)
-        }
-        Node::Either(first, second) => {
-            refresh(fresh, first);
-            refresh(fresh, second)
-        }
-        Node::AndThen(turns, _, _) => {
-            let decision = turns.first.begins;
-            turns.first = turns.first.refresh(fresh, decision.may_go_on());
-            turns.second = turns.second.refresh(fresh, decision.stops);
-        }
-        Node::CollectAll(part, begins, items) => {
-            *items = fresh.widen(*items, more_items(*begins, Span::one(0)));
-            refresh(fresh, part)
-        }
-        Node::WhileInput(part, _) => refresh(fresh, part),
-        Node::WhileOutput(part, _, _) => refresh(fresh, part),
-        Node::Map(part, _) => refresh(fresh, part),
-        Node::ResetWhen(part, _, _, _) => refresh(fresh, part),
-    }
-}
-
-// Adds the state after the first step to those of a part that may begin. It is the part's only
-// state if the part was not on.
-#[tactic(auto, using(crate::proofs::Fresh::fresh_begun))]
-pub(crate) fn add_first(begins: bool, is_on: bool, node: &mut Node)
-    requires firsts { KnowsFirsts node.old }
-    ensures state { node_state node.new ≡ node_begun begins is_on node.old }
-    ensures same { SameNode node.old node.new }
-{
-    refresh(Fresh::Nothing.add_first(begins, is_on), node)
 }

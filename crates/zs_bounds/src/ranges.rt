@@ -1,12 +1,12 @@
 //! What a step may return as its output.
 
 ghost use Rattle.std.specs.Prelude.{◌≡◌, IfOk};
-ghost use Rattle.zs_bounds.specs.OutputRange.{output_hull, numbers, pairs, sides, lists, number_span, size_span, first_range_in, second_range_in, picked_span, may_compare, opposite, may_pass, may_fail, numbers_in, merge_range, applied_range};
+ghost use Rattle.zs_bounds.specs.OutputRange.{output_hull, numbers, pairs, sides, lists, number_span, size_span, first_range_in, second_range_in, picked_span, numbers_in, merge_range, applied_range};
 ghost use Rattle.zs_bounds.specs.OutRange.{output_range_of};
 
 use crate::span::Span;
 use std::alloc::{AllocError, Global};
-use zs_term::{Cmp, Func, Pick, Test};
+use zs_term::{Func, Pick};
 
 // A range of outputs: of numbers, pairs, sides of a choice, or lists by their number of items.
 #[derive(Drop)]
@@ -159,54 +159,6 @@ pub(crate) fn picked_span(pick: Pick, range: &OutRange) -> Option<Span>
             | OutRange::Anything => number_span(range),
         },
         Pick::Size => size_span(range),
-    }
-}
-
-// Whether a comparison may hold of a number of a span.
-fn may_compare(cmp: Cmp, span: Span, than: u64) -> bool
-    ensures value { result ≡ may_compare cmp span than }
-{
-    match cmp {
-        Cmp::Lt => span.low < than,
-        Cmp::Le => span.low <= than,
-        Cmp::Eq => span.low <= than && than <= span.high,
-        Cmp::Ne => !(span.low == than && span.high == than),
-        Cmp::Gt => than < span.high,
-        Cmp::Ge => than <= span.high,
-    }
-}
-
-// The comparison that holds if another one doesn't.
-fn opposite(cmp: Cmp) -> Cmp
-    ensures value { result ≡ opposite cmp }
-{
-    match cmp {
-        Cmp::Lt => Cmp::Ge,
-        Cmp::Le => Cmp::Gt,
-        Cmp::Eq => Cmp::Ne,
-        Cmp::Ne => Cmp::Eq,
-        Cmp::Gt => Cmp::Le,
-        Cmp::Ge => Cmp::Lt,
-    }
-}
-
-// Whether a test of a number of a span may pass.
-pub(crate) fn may_pass(test: Test, span: Option<Span>) -> bool
-    ensures value { result ≡ may_pass test span }
-{
-    match span {
-        None => true,
-        Some(s) => may_compare(test.cmp, s, test.than),
-    }
-}
-
-// Whether it may fail.
-pub(crate) fn may_fail(test: Test, span: Option<Span>) -> bool
-    ensures value { result ≡ may_fail test span }
-{
-    match span {
-        None => true,
-        Some(s) => may_compare(opposite(test.cmp), s, test.than),
     }
 }
 

@@ -2,7 +2,7 @@
 
 ghost use Rattle.std.specs.Prelude.{◌≡◌};
 ghost use Rattle.zs_bounds.specs.Span.{span, hull};
-ghost use Rattle.zs_bounds.specs.AnswerRange.{earlier_steps, delays};
+ghost use Rattle.zs_bounds.specs.AnswerRange.{any_input, earlier_steps, delays};
 ghost use Rattle.zs_bounds.specs.StateRange.{more_steps, more_time};
 
 // The greatest moment of a clock, in milliseconds: about 31,700 years.
@@ -68,4 +68,11 @@ impl Span {
     {
         Some(Span::new(self.low.min(UNCUT_WAIT), self.high))
     }
+}
+
+// All inputs.
+pub(crate) fn any_input() -> Option<Span>
+    ensures value { result ≡ any_input }
+{
+    Some(Span::new(0, u64::MAX))
 }

@@ -8,12 +8,13 @@ ghost use Rattle.zs_bounds.specs.Node.{node_range, node_state, turns_range, turn
 ghost use Rattle.zs_bounds.specs.Reads.{Shows};
 ghost use Rattle.zs_bounds.specs.Steps.{Gives, IsLeft, IsRight, IsEither, DecideBoth, Moves, MoveBoth, MovesPart, MovesTurns, over_range, over_next, items_range, items_next, pairs_output, merged_range, first_turn_range, second_turn_range, may_end, stays_on};
 
-use crate::decisions::Decisions;
+use crate::decisions::{Decisions, may_fail, may_pass, more_items};
 use crate::leaves::leaf_range;
-use crate::node::{Node, add_first, any_input, more_items, refresh};
-use crate::ranges::{OutRange, func_range, make_pairs, may_fail, may_pass, picked_span};
+use crate::node::Node;
+use crate::ranges::{OutRange, func_range, make_pairs, picked_span};
 use crate::reads::{Reads, join_read};
-use crate::span::Span;
+use crate::refreshing::{add_first, refresh};
+use crate::span::{Span, any_input};
 use crate::turns::{ResetRule, Turn, Turns};
 use std::alloc::{AllocError, Global};
 use std::mem::replace;

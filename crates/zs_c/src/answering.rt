@@ -9,7 +9,7 @@ ghost use Rattle.zs_c.specs.Refusals.{IsTextRefusal, IsRefusal};
 ghost use Rattle.zs_c.specs.Told.{HasAnswer, TellsStepped};
 ghost use Rattle.zs_c.specs.declared.refusal.Refusal.TheVariants.{Memory};
 
-use crate::following::{first_fall, last_answer};
+use crate::following::{first_fall, last_result};
 use crate::refusal::Refusal;
 use crate::reply::Reply;
 use crate::room::put;
@@ -36,7 +36,7 @@ pub(crate) fn schedule_in(alloc: Global, text: &[u8]) -> Result<Checked, Refusal
 }
 
 // Returns the result of a text's schedule at the last pair.
-pub(crate) fn answer_in(alloc: Global, text: &[u8], seen: &[Seen]) -> Result<Stepped, Refusal>
+pub(crate) fn result_in(alloc: Global, text: &[u8], seen: &[Seen]) -> Result<Stepped, Refusal>
     ensures ok { IfOk result (HasAnswer text.now (pairs_of seen.now)) }
     ensures err { IfErr result (IsRefusal text.now (pairs_of seen.now)) }
 {
@@ -46,7 +46,7 @@ pub(crate) fn answer_in(alloc: Global, text: &[u8], seen: &[Seen]) -> Result<Ste
     }
     match first_fall(seen) {
         Some(at) => Err(Refusal::Falls { at }),
-        None => last_answer(alloc, checked, seen),
+        None => last_result(alloc, checked, seen),
     }
 }
 

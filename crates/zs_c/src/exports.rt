@@ -8,11 +8,11 @@ ghost use Rattle.zs_c.specs.Numbers.{refusal_place};
 ghost use Rattle.zs_c.specs.Refusals.{SpellsSome};
 ghost use Rattle.zs_c.specs.Told.{IsAnswered, IsRefused, IsRefusedFor, IsTextRefused, written};
 
-use crate::answering::{answer_in, schedule_in, tell};
+use crate::answering::{result_in, schedule_in, tell};
 use crate::bounding::{BoundsTold, GivenDurations, bounds_in};
 use crate::refusal::Refusal;
 use crate::reply::Reply;
-use crate::room::{put, put_behind};
+use crate::room::{put, put_after};
 use crate::seen::Seen;
 use crate::texts::{fault_words, has_byte};
 use itoa::Buffer;
@@ -52,14 +52,14 @@ pub fn zs_answer(
     ensures refused { 1 < result → IsRefused text.now (pairs_of seen.now) result reply.new }
     ensures kept { 1 < result → out.new ≡ out.old }
 {
-    let why = match answer_in(alloc, text, seen) {
+    let why = match result_in(alloc, text, seen) {
         Ok(stepped) => match tell(alloc, &stepped, reply, out) {
             Ok(number) => return number,
             Err(why) => why,
         },
         Err(why) => why,
     };
-    *reply = refused_at(why);
+    *reply = error_reply(why);
     why.number()
 }
 
@@ -109,8 +109,8 @@ pub fn zs_fault_text(number: u32, at: u64, out: &mut [u8]) -> u64
     let mut buffer = Buffer::new();
     let digits = buffer.format(at).as_bytes();
     let place = b" at byte ";
-    put_behind(out, words.len(), place);
-    put_behind(out, words.len() + place.len(), digits);
+    put_after(out, words.len(), place);
+    put_after(out, words.len() + place.len(), digits);
     (words.len() + place.len() + digits.len()) as u64
 }
 
@@ -123,7 +123,7 @@ pub fn zs_version() -> u32
 }
 
 // Returns the reply for an error: its place, and 0 in all other fields.
-fn refused_at(why: Refusal) -> Reply
+fn error_reply(why: Refusal) -> Reply
     ensures value { result ≡ record { next = 0; size = 0; visits = 0; at = refusal_place why } }
 {
     Reply {

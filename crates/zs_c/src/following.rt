@@ -30,7 +30,7 @@ pub(crate) fn first_fall(seen: &[Seen]) -> Option<u64>
 
 // Returns the result at the last pair: steps a new `Compiled` once for each pair, and makes the
 // last output alone. Fails only with `Memory`.
-pub(crate) fn last_answer(
+pub(crate) fn last_result(
     alloc: Global,
     checked: Checked,
     seen: &[Seen],

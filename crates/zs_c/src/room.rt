@@ -12,8 +12,8 @@ pub(crate) fn put(room: &mut [u8], text: &[u8])
 }
 
 // Writes a text after the first bytes of a buffer, as far as it fits.
-pub(crate) fn put_behind(room: &mut [u8], first: usize, text: &[u8])
-    ensures behind { room.new ≡ take first room.old ++ written text.now (drop first room.old) }
+pub(crate) fn put_after(room: &mut [u8], first: usize, text: &[u8])
+    ensures after { room.new ≡ take first room.old ++ written text.now (drop first room.old) }
 {
     if first < room.len() {
         put(&mut room[first..], text);

@@ -6,7 +6,7 @@ ghost use Rattle.zs_c.specs.Code.{IsCode, held_of, held_size};
 ghost use Rattle.zs_c.specs.Steps.{ClearsParts};
 
 use crate::program::leaf::clear_leaf;
-use crate::program::node::{Form, Sizes, behind, front, read_node};
+use crate::program::node::{Form, Sizes, front, read_node, words_after};
 
 // Resets the words of a code's state to those before any step.
 #[cycle(clearing)]
@@ -26,9 +26,9 @@ pub(crate) fn clear(code: &[u64], words: &mut [u64], levels: u64)
                 clear_parts(code, &mut words[1..], sizes, levels - 1);
             }
         }
-        Form::WhileInput(_) | Form::Map(_) => clear(behind(code, 3), words, levels - 1),
+        Form::WhileInput(_) | Form::Map(_) => clear(words_after(code, 3), words, levels - 1),
         Form::WhileOutput(_, _) | Form::ResetWhen(_, _) => {
-            clear(behind(code, 4), words, levels - 1)
+            clear(words_after(code, 4), words, levels - 1)
         }
     }
 }
@@ -38,9 +38,13 @@ pub(crate) fn clear(code: &[u64], words: &mut [u64], levels: u64)
 fn clear_parts(code: &[u64], words: &mut [u64], sizes: Sizes, levels: u64)
     ensures clears { ClearsParts sizes code.now levels words.old words.new }
 {
-    let (rest, size, state) = (behind(code, 3), sizes.code as usize, sizes.state as usize);
+    let (rest, size, state) = (
+        words_after(code, 3),
+        sizes.code as usize,
+        sizes.state as usize,
+    );
     if state <= words.len() {
         clear(front(rest, size), &mut words[..state], levels);
-        clear(behind(rest, size), &mut words[state..], levels);
+        clear(words_after(rest, size), &mut words[state..], levels);
     }
 }

@@ -9,7 +9,7 @@ ghost use Rattle.zs_c.specs.Told.{IsRefusedFor};
 
 use crate::program::compiling::{fitting_program, sizes_in};
 use crate::program::leaf::Step;
-use crate::program::running::{begin, fitting, run_step, steppable};
+use crate::program::running::{begin, open_fitting, open_for_step, run_step};
 use crate::reply::Reply;
 use crate::room::put_words;
 use std::alloc::Global;
@@ -71,7 +71,7 @@ pub fn zs_program_begin(program: &[u64], state: &mut [u64]) -> u32
     ensures refused { 0 < result → IsDeniedFor (IsUnfit program.now state.old) result }
     ensures kept { 0 < result → state.new ≡ state.old }
 {
-    match fitting(program, state) {
+    match open_fitting(program, state) {
         Ok(opened) => {
             begin(opened, state);
             0
@@ -100,7 +100,7 @@ pub fn zs_program_step(
     ensures stays { 1 < result → state.new ≡ state.old }
     ensures kept { 1 < result → out.new ≡ out.old }
 {
-    match steppable(program, state, moment) {
+    match open_for_step(program, state, moment) {
         Ok(opened) => run_step(opened, state, &Step { moment, input }, reply, out),
         Err(why) => {
             *reply = Reply {

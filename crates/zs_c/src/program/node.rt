@@ -110,7 +110,7 @@ pub(crate) fn word(words: &[u64], at: usize) -> u64
 
 // Returns the words from an index on.
 #[inline(always)]
-pub(crate) fn behind(words: &[u64], at: usize) -> &[u64]
+pub(crate) fn words_after(words: &[u64], at: usize) -> &[u64]
     ensures value { result.now ≡ drop at words.now }
 {
     if at <= words.len() { &words[at..] } else { &[] }

@@ -9,7 +9,7 @@ ghost use Rattle.zs_c.specs.View.{EndsPair, EndsSide, PlaceTells, PutsPair, Puts
 
 use crate::program::node::{Form, read_node, word};
 use crate::program::outputs::{Place, View, part, parts, read_view};
-use crate::room::put_behind;
+use crate::room::put_after;
 use itoa::Buffer;
 
 // Writes the text of the output of a node's last step to `room` from byte `at` on, as far as it
@@ -61,7 +61,7 @@ fn put_side(side: &[u8], part: Place<'_>, room: &mut [u8], at: usize) -> usize
     ensures text { PutsSide side.now part.entry at room.old room.new }
     ensures end { EndsSide side.now part.entry at result }
 {
-    put_behind(room, at, side);
+    put_after(room, at, side);
     let end = put_output(part, room, at.saturating_add(side.len()));
     put_byte(b')', room, end)
 }
@@ -85,6 +85,6 @@ fn put_number(n: u64, room: &mut [u8], at: usize) -> usize
 {
     let mut buffer = Buffer::new();
     let digits = buffer.format(n).as_bytes();
-    put_behind(room, at, digits);
+    put_after(room, at, digits);
     at.saturating_add(digits.len())
 }

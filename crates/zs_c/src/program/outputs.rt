@@ -4,7 +4,7 @@ ghost use Rattle.std.specs.Prelude.{◌≡◌, ◌-◌, take, drop};
 ghost use Rattle.zs_term.specs.Output.{Output, number_in, picked, applied};
 ghost use Rattle.zs_c.specs.View.{Shows, PlaceTells, IsLower};
 
-use crate::program::node::{Form, Sizes, behind, front, read_node, word};
+use crate::program::node::{Form, Sizes, front, read_node, word, words_after};
 use zs_term::{Func, Pick};
 
 // A node's code and the words of its state.
@@ -88,7 +88,7 @@ pub(crate) fn part(place: Place<'_>, at: usize) -> Place<'_>
     ensures levels { result.levels ≡ place.entry.levels - 1 }
 {
     Place {
-        code: behind(place.code, at),
+        code: words_after(place.code, at),
         words: place.words,
         levels: place.levels.saturating_sub(1),
     }
@@ -104,7 +104,7 @@ pub(crate) fn parts(place: Place<'_>, sizes: Sizes, at: usize) -> (Place<'_>, Pl
     ensures first_levels { result.0.levels ≡ place.entry.levels - 1 }
     ensures second_levels { result.1.levels ≡ place.entry.levels - 1 }
 {
-    let (rest, words) = (behind(place.code, 3), behind(place.words, at));
+    let (rest, words) = (words_after(place.code, 3), words_after(place.words, at));
     let (size, state) = (sizes.code as usize, sizes.state as usize);
     let levels = place.levels.saturating_sub(1);
     let first = Place {
@@ -113,8 +113,8 @@ pub(crate) fn parts(place: Place<'_>, sizes: Sizes, at: usize) -> (Place<'_>, Pl
         levels,
     };
     let second = Place {
-        code: behind(rest, size),
-        words: behind(words, state),
+        code: words_after(rest, size),
+        words: words_after(words, state),
         levels,
     };
     (first, second)

@@ -22,7 +22,7 @@ use zs_term::MAX_DEPTH;
 
 // Opens a program. Fails if the words are no program, or if `state` has fewer words than its state.
 #[inline(always)]
-pub(crate) fn fitting<'a>(program: &'a [u64], state: &[u64]) -> Result<Opened<'a>, Denial>
+pub(crate) fn open_fitting<'a>(program: &'a [u64], state: &[u64]) -> Result<Opened<'a>, Denial>
     ensures ok { IfOk result (λ o. (t : Schedule) → IsProgram program.now t → Opens o t) }
     ensures checked { IfOk result (λ _. IsChecked program.now) }
     ensures state { IfOk result (λ o. o.state ≡ slice_index_or program.now 3 0) }
@@ -41,7 +41,7 @@ pub(crate) fn fitting<'a>(program: &'a [u64], state: &[u64]) -> Result<Opened<'a
 // The same for a step. Also fails if the words are another program's state, or if `moment` is below
 // the last moment.
 #[inline(always)]
-pub(crate) fn steppable<'a>(
+pub(crate) fn open_for_step<'a>(
     program: &'a [u64],
     state: &[u64],
     moment: u64,
@@ -52,7 +52,7 @@ pub(crate) fn steppable<'a>(
     ensures fits { IfOk result (λ o. o.state + 2 ≤ length state.now) }
     ensures err { IfErr result (IsDenied program.now state.now moment) }
 {
-    let opened = fitting(program, state)?;
+    let opened = open_fitting(program, state)?;
     if state[0] != opened.check {
         return Err(Denial::OtherState);
     }

@@ -8,7 +8,7 @@ ghost use Rattle.zs_c.specs.View.{Tells};
 
 use crate::program::clearing::clear;
 use crate::program::leaf::{Step, step_leaf};
-use crate::program::node::{Form, Sizes, behind, front, read_node};
+use crate::program::node::{Form, Sizes, front, read_node, words_after};
 use crate::program::outputs::{Place, read_number};
 use zs_step::Decision;
 use zs_term::{MAX_WEIGHT, Pick, Test};
@@ -42,17 +42,17 @@ pub(crate) fn step_code(
         }
         Form::AndThen(sizes) => step_and_then(code, words, sizes, levels - 1, step, visits),
         Form::WhileInput(test) => {
-            let decision = step_code(behind(code, 3), words, levels - 1, step, visits);
+            let decision = step_code(words_after(code, 3), words, levels - 1, step, visits);
             decision.only_if(test.passes(step.input))
         }
         Form::WhileOutput(pick, test) => {
-            let part = behind(code, 4);
+            let part = words_after(code, 4);
             let decision = step_code(part, words, levels - 1, step, visits);
             decision.only_if(has_passed(part, words, levels - 1, pick, test))
         }
-        Form::Map(_) => step_code(behind(code, 3), words, levels - 1, step, visits),
+        Form::Map(_) => step_code(words_after(code, 3), words, levels - 1, step, visits),
         Form::ResetWhen(pick, test) => {
-            let part = behind(code, 4);
+            let part = words_after(code, 4);
             let decision = step_code(part, words, levels - 1, step, visits);
             if !has_passed(part, words, levels - 1, pick, test) {
                 return decision;
@@ -90,13 +90,17 @@ fn step_parts(
     ensures steps { StepsParts sizes code.now levels words.old words.new step.now visits.old
         visits.new result }
 {
-    let (rest, size, state) = (behind(code, 3), sizes.code as usize, sizes.state as usize);
+    let (rest, size, state) = (
+        words_after(code, 3),
+        sizes.code as usize,
+        sizes.state as usize,
+    );
     if words.len() < state {
         return (Decision::Stop, Decision::Stop);
     }
     let x = step_code(front(rest, size), &mut words[..state], levels, step, visits);
     let y = step_code(
-        behind(rest, size),
+        words_after(rest, size),
         &mut words[state..],
         levels,
         step,
@@ -119,7 +123,11 @@ fn step_and_then(
     ensures steps { StepsInTurn sizes code.now levels words.old words.new step.now visits.old
         visits.new result }
 {
-    let (rest, size, state) = (behind(code, 3), sizes.code as usize, sizes.state as usize);
+    let (rest, size, state) = (
+        words_after(code, 3),
+        sizes.code as usize,
+        sizes.state as usize,
+    );
     if words.len() <= state {
         return Decision::Stop;
     }
@@ -134,7 +142,7 @@ fn step_and_then(
         clear(first, &mut words[1..second], levels);
     }
     step_code(
-        behind(rest, size),
+        words_after(rest, size),
         &mut words[second..],
         levels,
         step,

@@ -15,8 +15,8 @@ returns-clause-text c =
     let place : digits ≡ decimal c.args.at = c.as_bytes-digits.ensures.value ∙ c.format.ensures.text in
     let is_placed = sym c.has_byte.ensures.value ∙ c.if-not-has_byte.false in
     let text = fault_words c.args.number ++ (codes " at byte " ++ decimal c.args.at) in
-    let room = written_thrice a (codes " at byte ") digits c.args.out.now c.put.new.room c.put_behind.new.room c.put_behind-2.new.room _ _ refl refl
-    c.put.ensures.front c.put_behind.ensures.behind c.put_behind-2.ensures.behind in
+    let room = written_thrice a (codes " at byte ") digits c.args.out.now c.put.new.room c.put_after.new.room c.put_after-2.new.room _ _ refl refl
+    c.put.ensures.front c.put_after.ensures.after c.put_after-2.ensures.after in
     room ∙ ap (λ w. written (w ++ (codes " at byte " ++ digits)) c.args.out.now) words
     ∙ ap (λ w. written (fault_words c.args.number ++ (codes " at byte " ++ w)) c.args.out.now) place
     ∙ ap (λ (b : Bool). written (if b then text else fault_words c.args.number) c.args.out.now) (sym is_placed)

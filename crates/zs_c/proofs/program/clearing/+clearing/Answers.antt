@@ -24,14 +24,14 @@ clear-returns-then-not-is_empty t c =
 
 pub clear-returns-in-WhileInput : goal.clear-returns-in-WhileInput
 clear-returns-in-WhileInput t c = record {
-  clears = λ u coded. three-clears u c.args.code.now c.behind.result.now c.args.words.now c.clear.new.words c.args.levels c.read_node.result coded
-      c.read_node.ensures.value c.behind.ensures.value c.in-WhileInput.is c.clear.ensures.clears;
+  clears = λ u coded. three-clears u c.args.code.now c.words_after.result.now c.args.words.now c.clear.new.words c.args.levels c.read_node.result coded
+      c.read_node.ensures.value c.words_after.ensures.value c.in-WhileInput.is c.clear.ensures.clears;
 }
 
 pub clear-returns-in-WhileOutput : goal.clear-returns-in-WhileOutput
 clear-returns-in-WhileOutput t c = record {
-  clears = λ u coded. four-clears u c.args.code.now c.behind-in-WhileOutput.result.now c.args.words.now c.clear-in-WhileOutput.new.words c.args.levels
-      c.read_node.result coded c.read_node.ensures.value c.behind-in-WhileOutput.ensures.value c.in-WhileOutput.is c.clear-in-WhileOutput.ensures.clears;
+  clears = λ u coded. four-clears u c.args.code.now c.words_after-in-WhileOutput.result.now c.args.words.now c.clear-in-WhileOutput.new.words c.args.levels
+      c.read_node.result coded c.read_node.ensures.value c.words_after-in-WhileOutput.ensures.value c.in-WhileOutput.is c.clear-in-WhileOutput.ensures.clears;
 }
 
 pub clear-returns-in-Both : goal.clear-returns-in-Both

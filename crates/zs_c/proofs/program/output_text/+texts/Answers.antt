@@ -191,5 +191,5 @@ put_side-returns-clause-text t c o tells small =
     length-append side (text ++ codes ")") ∙ ap (λ n. length side + n) (length-append text (codes ")")) in
     let start : c.saturating_add.result ≡ at + length side = omega (arith, small, size, c.saturating_add.ensures) in
     let end = c.put_output-end.ensures.end o tells (omega (arith, small, size, start)) in
-    three-written at c.saturating_add.result c.put_output-end.result side text (codes ")") c.args.room.now c.put_behind.new.room c.put_output-end.new.room c.put_byte.new.room
-    c.put_behind.ensures.behind start (c.put_output-end.ensures.text o tells (omega (arith, small, size, start))) end c.put_byte.ensures.text
+    three-written at c.saturating_add.result c.put_output-end.result side text (codes ")") c.args.room.now c.put_after.new.room c.put_output-end.new.room c.put_byte.new.room
+    c.put_after.ensures.after start (c.put_output-end.ensures.text o tells (omega (arith, small, size, start))) end c.put_byte.ensures.text

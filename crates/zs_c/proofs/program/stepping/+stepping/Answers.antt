@@ -18,7 +18,7 @@ step_and_then-returns-in-Next t c = record {
       let x = c.step_code-x in
       let n = c.args.sizes.state in
       let size = c.args.sizes.code in
-      let front = code-at a c.front-first.result.now _ c.args.levels (c.front-first.ensures.value ∙ ap (λ z. take size z) c.behind-rest.ensures.value) parts.first in
+      let front = code-at a c.front-first.result.now _ c.args.levels (c.front-first.ensures.value ∙ ap (λ z. take size z) c.words_after-rest.ensures.value) parts.first in
       then-goes a b h c.args.words.now x.new.words c.args.step.now.moment c.args.step.now.input n x.result c.args.visits.now x.new.visits MAX_WEIGHT
       (ap (λ (z : Sizes). z.state) parts.sizes) held room c.if-words-eq0.true (λ e r. x.ensures.steps a h front r e) (ap is_next c.in-Next.is);
 }
@@ -30,8 +30,8 @@ step_and_then-returns t c = record {
       let n = c.args.sizes.state in
       let size = c.args.sizes.code in
       let sized = ap (λ (z : Sizes). z.state) parts.sizes in
-      let rest = c.behind-rest.ensures.value in
-      let behind = code-at b c.behind.result.now _ c.args.levels (c.behind.ensures.value ∙ ap (λ z. drop size z) rest) parts.second in
+      let rest = c.words_after-rest.ensures.value in
+      let behind = code-at b c.words_after.result.now _ c.args.levels (c.words_after.ensures.value ∙ ap (λ z. drop size z) rest) parts.second in
       elim c.if-words-eq0.branch [
         | step_and_then-then-words-eq0+in_default w ↦
             let x = w.step_code-x in
@@ -56,9 +56,9 @@ step_code-returns-then-levels-eq0 t c = record {
 pub step_code-returns-then-not-has_passed : goal.step_code-returns-then-not-has_passed
 step_code-returns-then-not-has_passed t c = record {
   steps = λ u h coded room held. let s = c.step_code-decision-in-ResetWhen in
-      reset-stays-node u h c.args.code.now c.behind-part-in-ResetWhen.result.now c.args.words.now s.new.words c.args.levels c.args.step.now.moment c.args.step.now.input
+      reset-stays-node u h c.args.code.now c.words_after-part-in-ResetWhen.result.now c.args.words.now s.new.words c.args.levels c.args.step.now.moment c.args.step.now.input
       s.result c.args.visits.now s.new.visits MAX_WEIGHT c.read_node.result c.in-ResetWhen.pick c.in-ResetWhen.test c.has_passed-in-ResetWhen.result
-      coded c.read_node.ensures.value c.in-ResetWhen.is c.behind-part-in-ResetWhen.ensures.value room held s.ensures.steps c.has_passed-in-ResetWhen.ensures.value
+      coded c.read_node.ensures.value c.in-ResetWhen.is c.words_after-part-in-ResetWhen.ensures.value room held s.ensures.steps c.has_passed-in-ResetWhen.ensures.value
       c.if-not-has_passed.true;
 }
 
@@ -96,36 +96,36 @@ step_code-returns-in-AndThen t c = record {
 pub step_code-returns-in-WhileInput : goal.step_code-returns-in-WhileInput
 step_code-returns-in-WhileInput t c = record {
   steps = λ u h coded room held. let s = c.step_code-decision in
-      while_input-node u h c.args.code.now c.behind.result.now c.args.words.now s.new.words c.args.levels c.args.step.now.moment c.args.step.now.input
+      while_input-node u h c.args.code.now c.words_after.result.now c.args.words.now s.new.words c.args.levels c.args.step.now.moment c.args.step.now.input
       s.result c.only_if.result c.args.visits.now s.new.visits MAX_WEIGHT c.read_node.result c.in-WhileInput.test c.passes.result
-      coded c.read_node.ensures.value c.in-WhileInput.is c.behind.ensures.value room held s.ensures.steps c.passes.ensures.value
+      coded c.read_node.ensures.value c.in-WhileInput.is c.words_after.ensures.value room held s.ensures.steps c.passes.ensures.value
       c.only_if.ensures.value;
 }
 
 pub step_code-returns-in-WhileOutput : goal.step_code-returns-in-WhileOutput
 step_code-returns-in-WhileOutput t c = record {
   steps = λ u h coded room held. let s = c.step_code-decision-in-WhileOutput in
-      while_output-node u h c.args.code.now c.behind-part.result.now c.args.words.now s.new.words c.args.levels c.args.step.now.moment c.args.step.now.input
+      while_output-node u h c.args.code.now c.words_after-part.result.now c.args.words.now s.new.words c.args.levels c.args.step.now.moment c.args.step.now.input
       s.result c.only_if-in-WhileOutput.result c.args.visits.now s.new.visits MAX_WEIGHT c.read_node.result c.in-WhileOutput.pick c.in-WhileOutput.test c.has_passed.result
-      coded c.read_node.ensures.value c.in-WhileOutput.is c.behind-part.ensures.value room held s.ensures.steps c.has_passed.ensures.value
+      coded c.read_node.ensures.value c.in-WhileOutput.is c.words_after-part.ensures.value room held s.ensures.steps c.has_passed.ensures.value
       c.only_if-in-WhileOutput.ensures.value;
 }
 
 pub step_code-returns-in-Map : goal.step_code-returns-in-Map
 step_code-returns-in-Map t c = record {
   steps = λ u h coded room held. let s = c.step_code in
-      mapped-node u h c.args.code.now c.behind-in-Map.result.now c.args.words.now s.new.words c.args.levels c.args.step.now.moment c.args.step.now.input
+      mapped-node u h c.args.code.now c.words_after-in-Map.result.now c.args.words.now s.new.words c.args.levels c.args.step.now.moment c.args.step.now.input
       s.result c.args.visits.now s.new.visits MAX_WEIGHT c.read_node.result c.in-Map.field-0
-      coded c.read_node.ensures.value c.in-Map.is c.behind-in-Map.ensures.value room held s.ensures.steps;
+      coded c.read_node.ensures.value c.in-Map.is c.words_after-in-Map.ensures.value room held s.ensures.steps;
 }
 
 pub step_code-returns-else-not-has_passed : goal.step_code-returns-else-not-has_passed
 step_code-returns-else-not-has_passed t c = record {
   steps = λ u h coded room held. let s = c.step_code-decision-in-ResetWhen in let again = c.step_code-in-ResetWhen in
-      reset-begins-node u h c.args.code.now c.behind-part-in-ResetWhen.result.now c.args.words.now s.new.words c.clear.new.words again.new.words
+      reset-begins-node u h c.args.code.now c.words_after-part-in-ResetWhen.result.now c.args.words.now s.new.words c.clear.new.words again.new.words
       c.args.levels c.args.step.now.moment c.args.step.now.input s.result again.result c.args.visits.now s.new.visits again.new.visits MAX_WEIGHT
       c.read_node.result c.in-ResetWhen.pick c.in-ResetWhen.test c.has_passed-in-ResetWhen.result
-      coded c.read_node.ensures.value c.in-ResetWhen.is c.behind-part-in-ResetWhen.ensures.value room held s.ensures.steps c.has_passed-in-ResetWhen.ensures.value
+      coded c.read_node.ensures.value c.in-ResetWhen.is c.words_after-part-in-ResetWhen.ensures.value room held s.ensures.steps c.has_passed-in-ResetWhen.ensures.value
       c.if-not-has_passed.false c.clear.ensures.clears again.ensures.steps;
 }
 
@@ -141,9 +141,9 @@ step_parts-returns t c = record {
       let y = c.step_code-y in
       let n = c.args.sizes.state in
       let size = c.args.sizes.code in
-      let rest = c.behind-rest.ensures.value in
+      let rest = c.words_after-rest.ensures.value in
       let front = code-at a c.front.result.now _ c.args.levels (c.front.ensures.value ∙ ap (λ z. take size z) rest) parts.first in
-      let behind = code-at b c.behind.result.now _ c.args.levels (c.behind.ensures.value ∙ ap (λ z. drop size z) rest) parts.second in
+      let behind = code-at b c.words_after.result.now _ c.args.levels (c.words_after.ensures.value ∙ ap (λ z. drop size z) rest) parts.second in
       parts-steps a b h c.args.words.now x.new.words y.new.words c.args.step.now.moment c.args.step.now.input n x.result y.result
       c.args.visits.now x.new.visits y.new.visits MAX_WEIGHT (ap (λ (z : Sizes). z.state) parts.sizes) held room
       (λ e r. x.ensures.steps a h front r e)

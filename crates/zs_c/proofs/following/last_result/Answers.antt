@@ -4,7 +4,7 @@ use Rattle.zs_step.specs.History.{history_of}
 use Rattle.zs_step.specs.Compiled.{StandsFor, IsAnswer}
 use Rattle.zs_c.specs.Pairs.{pair_of, pairs_of}
 use Rattle.zs_c.proofs.SeenPairs.{nothing_seen, history-more, order-seen, history-whole}
-use Rattle.zs_c.proofs.following.last_answer.Goals as goal
+use Rattle.zs_c.proofs.following.last_result.Goals as goal
 
 pub advance-requires : goal.advance-requires
 advance-requires c =
