@@ -1,6 +1,5 @@
 -- One block after another, and how the run of a population ends.
-use Rattle.std.proofs.Common.{◌≡◌, ◌<◌, ◌≤◌, ◌+◌, ◌*◌, ℕ, List, [], ◌++◌, length, take, Ok, Option, None, Some, refl, sym, ap, ◌∙◌, append_assoc, append-nil, length-append, arith, codes, inl, inr}
-use Rattle.std.proofs.lemmas.Bool.{cases_lt}
+use Rattle.std.proofs.Common.{◌≡◌, ◌≤◌, ◌+◌, ◌*◌, ℕ, List, [], ◌++◌, length, take, Ok, Option, None, Some, refl, sym, ap, ◌∙◌, append_assoc, append-nil, length-append, arith, codes, subst}
 use Rattle.std.specs.Fmt.{decimal}
 use Rattle.std.specs.BTreeSet.{BTreeSet}
 use Rattle.std.specs.Io.KnownBytes.{Appends}
@@ -8,6 +7,8 @@ use Rattle.std.proofs.Common.{String, Global}
 use Rattle.std.proofs.KnownBytes.{Appends-trans}
 use Rattle.std.proofs.lemmas.List.{map-append, take-append-le}
 use Rattle.std.proofs.Math.Seq.{take-append-add}
+use Rattle.sha2.specs.Hashers.{Holds256}
+use Rattle.sha2.specs.declared.Sha256.{Sha256}
 use Rattle.zs_agenda.specs.Ticks.{Ticks}
 use Rattle.zs_drive.specs.Values.{JobRecord}
 use Rattle.zs_run.specs.Names.{KnowsNames}
@@ -41,10 +42,10 @@ pub record Joined (first : ℕ) (ahead ahead_now : Option (List ℕ)) (names : B
   pub known : KnowsNames names (names_of (old ++ more))
 
 -- no block yet
-pub done-nothing : (clock : Ticks) (first : ℕ) (ahead : Option (List ℕ)) (names : BTreeSet (String Global)) (before : Option (List ℕ)) → KnowsNames names []
-    → IsDone clock first ahead ahead names 0 0 0 before before
+pub done-nothing : (clock : Ticks) (first : ℕ) (ahead : Option (List ℕ)) (names : BTreeSet (String Global)) (before : Option (List ℕ)) (digest : Sha256) → KnowsNames names []
+    → Holds256 digest [] → IsDone clock first ahead ahead names 0 0 0 before before digest
 unfolding jobs_at
-done-nothing clock first ahead names before known = record {
+done-nothing clock first ahead names before digest known empty = record {
   lines = [];
   jobs = [];
   read = took-nothing ahead;
@@ -54,6 +55,7 @@ done-nothing clock first ahead names before known = record {
   counted = refl;
   written = appends-nothing before;
   told = refl;
+  digested = empty;
 }
 
 -- the total of all jobs so far
@@ -61,23 +63,15 @@ pub total-of : (clock : Ticks) (old more : List JobRecord) (polls count : ℕ) �
     → count ≡ polls_of clock (old ++ more)
 total-of clock old more polls count before is = is ∙ ap (λ n. n + polls_of clock more) before ∙ sym (polls_of_two clock old more)
 
--- the text of a block is a beginning of the text of the last block
-pub text-begins : (clock : Ticks) (old more : List JobRecord) (count : ℕ) (text : List ℕ) → count ≡ polls_of clock (old ++ more)
-    → length more ≤ block_jobs → (length more ≡ block_jobs → text ≡ jobs_text clock more) → (length more < block_jobs → text ≡ with_total (jobs_text clock more) count)
-    → (rest : List ℕ) × (text ++ rest ≡ with_total (jobs_text clock more) (polls_of clock (old ++ more)))
-text-begins clock old more count text total few whole last = elim (cases_lt (length more) block_jobs) [
-  | inl short ↦ ([], append-nil text ∙ last short ∙ ap (with_total (jobs_text clock more)) total)
-  | inr full ↦ (
-    with_total [] (polls_of clock (old ++ more)),
-    ap (λ (bs : List ℕ). bs ++ with_total [] (polls_of clock (old ++ more))) (whole (omega (arith, full, few)))
-        ∙ sym (with_total-append (jobs_text clock more) [] (polls_of clock (old ++ more)))
-        ∙ ap (λ (bs : List ℕ). with_total bs (polls_of clock (old ++ more))) (append-nil (jobs_text clock more)),
-  )
-]
+-- the lines of some jobs are a beginning of these lines with a total, and what follows it
+pub total-follows : (lines : List ℕ) (polls : ℕ) (tail : List ℕ) → lines ++ (with_total [] polls ++ tail) ≡ with_total lines polls ++ tail
+total-follows lines polls tail =
+    sym (append_assoc lines (with_total [] polls) tail)
+    ∙ ap (λ (bs : List ℕ). bs ++ tail) (sym (with_total-append lines [] polls) ∙ ap (λ (bs : List ℕ). with_total bs polls) (append-nil lines))
 
-module _ (clock : Ticks) (first : ℕ) (ahead mid now : Option (List ℕ)) (names known : BTreeSet (String Global)) (blocks polls sent : ℕ) (before taken : Option (List ℕ)) where
+module _ (clock : Ticks) (first : ℕ) (ahead mid now : Option (List ℕ)) (names known : BTreeSet (String Global)) (blocks polls sent : ℕ) (before taken : Option (List ℕ)) (digest : Sha256) where
   -- the jobs of a block join those of the blocks before
-  pub joined : (done : IsDone clock first ahead mid names blocks polls sent before taken) (more : List JobRecord)
+  pub joined : (done : IsDone clock first ahead mid names blocks polls sent before taken digest) (more : List JobRecord)
       → BlockReads (first + blocks * block_jobs) mid now names known more → Joined first ahead now known done.jobs more
   joined done more reads =
       let block = reads (names_of done.jobs) done.known in
@@ -91,12 +85,12 @@ module _ (clock : Ticks) (first : ℕ) (ahead mid now : Option (List ℕ)) (name
       }
 
   -- one more whole block
-  pub more-done : (done : IsDone clock first ahead mid names blocks polls sent before taken) (more : List JobRecord) (written : Option (List ℕ)) (count told : ℕ)
+  pub more-done : (done : IsDone clock first ahead mid names blocks polls sent before taken digest) (more : List JobRecord) (written : Option (List ℕ)) (count told : ℕ) (hasher : Sha256)
       → BlockReads (first + blocks * block_jobs) mid now names known more → length more ≡ block_jobs
       → count ≡ polls + polls_of clock more → told ≡ sent + length (jobs_text clock more)
-      → Appends taken written (jobs_text clock more)
-      → IsDone clock first ahead now known (blocks + 1) count told before written
-  more-done done more written count told reads many counts tells writes =
+      → Appends taken written (jobs_text clock more) → ((m : List ℕ) → Holds256 digest m → Holds256 hasher (m ++ jobs_text clock more))
+      → IsDone clock first ahead now known (blocks + 1) count told before written hasher
+  more-done done more written count told hasher reads many counts tells writes takes =
       let all = joined done more reads in
       record {
         lines = all.lines;
@@ -109,45 +103,62 @@ module _ (clock : Ticks) (first : ℕ) (ahead mid now : Option (List ℕ)) (name
         written = rw (text_of_two clock done.jobs more) (Appends-trans before taken written _ _ done.written writes);
         told = tells ∙ ap (λ n. n + length (jobs_text clock more)) done.told
             ∙ sym (length-append (jobs_text clock done.jobs) (jobs_text clock more)) ∙ ap (λ (text : List ℕ). length text) (sym (text_of_two clock done.jobs more));
+        digested = rw (text_of_two clock done.jobs more) (takes (jobs_text clock done.jobs) done.digested);
       }
 
-  -- A part of a block's text was written after all of the blocks before it. All text that was
-  -- written is a beginning of the report of all jobs so far.
-  pub part-written : (done : IsDone clock first ahead mid names blocks polls sent before taken) (more : List JobRecord) (plan : PlanRecord) (written : Option (List ℕ)) (text rest : List ℕ) (count : ℕ)
-      → plan.clock ≡ clock → plan.jobs ≡ done.jobs ++ more
-      → text ++ rest ≡ with_total (jobs_text clock more) (polls_of clock (done.jobs ++ more)) → count ≤ length text
-      → Appends taken written (take count text)
-      → (sent + count ≤ length (report_of plan)) × Appends before written (take (sent + count) (report_of plan))
-  part-written done more plan written text rest count clocks jobs begins within writes =
-      let old : List ℕ = jobs_text clock done.jobs in
-      let total : ℕ = polls_of clock (done.jobs ++ more) in
-      let whole : report_of plan ≡ old ++ (text ++ rest) =
+  -- the report of all jobs so far
+  report-is : (done : IsDone clock first ahead mid names blocks polls sent before taken digest) (more : List JobRecord) (plan : PlanRecord) → plan.clock ≡ clock → plan.jobs ≡ done.jobs ++ more
+      → report_of plan ≡ jobs_text clock done.jobs ++ with_total (jobs_text clock more) (polls_of clock (done.jobs ++ more))
+  report-is done more plan clocks jobs =
       ap (λ (c : Ticks). with_total (jobs_text c plan.jobs) (polls_of c plan.jobs)) clocks
       ∙ ap (λ js. with_total (jobs_text clock js) (polls_of clock js)) jobs
-      ∙ ap (λ (bs : List ℕ). with_total bs total) (text_of_two clock done.jobs more)
-      ∙ with_total-append old (jobs_text clock more) total
-      ∙ ap (λ (bs : List ℕ). old ++ bs) (sym begins) in
-      let part : take (sent + count) (report_of plan) ≡ old ++ take count text =
+      ∙ ap (λ (bs : List ℕ). with_total bs (polls_of clock (done.jobs ++ more))) (text_of_two clock done.jobs more)
+      ∙ with_total-append (jobs_text clock done.jobs) (jobs_text clock more) (polls_of clock (done.jobs ++ more))
+
+  -- the report with what follows it, of which a text is the beginning, after those before
+  tail-is : (done : IsDone clock first ahead mid names blocks polls sent before taken digest) (more : List JobRecord) (plan : PlanRecord) (text rest tail : List ℕ)
+      → plan.clock ≡ clock → plan.jobs ≡ done.jobs ++ more
+      → text ++ rest ≡ with_total (jobs_text clock more) (polls_of clock (done.jobs ++ more)) ++ tail → report_of plan ++ tail ≡ jobs_text clock done.jobs ++ (text ++ rest)
+  tail-is done more plan text rest tail clocks jobs begins =
+      ap (λ (bs : List ℕ). bs ++ tail) (report-is done more plan clocks jobs)
+      ∙ append_assoc (jobs_text clock done.jobs) (with_total (jobs_text clock more) (polls_of clock (done.jobs ++ more))) tail
+      ∙ ap (λ (bs : List ℕ). jobs_text clock done.jobs ++ bs) (sym begins)
+
+  -- the report was digested
+  pub digested-report : (done : IsDone clock first ahead mid names blocks polls sent before taken digest) (more : List JobRecord) (plan : PlanRecord) (text : List ℕ) (hasher : Sha256)
+      → plan.clock ≡ clock → plan.jobs ≡ done.jobs ++ more → text ≡ with_total (jobs_text clock more) (polls_of clock (done.jobs ++ more))
+      → ((m : List ℕ) → Holds256 digest m → Holds256 hasher (m ++ text)) → Holds256 hasher (report_of plan)
+  digested-report done more plan text hasher clocks jobs is takes =
+      let whole : report_of plan ≡ jobs_text clock done.jobs ++ text =
+      report-is done more plan clocks jobs ∙ ap (λ (bs : List ℕ). jobs_text clock done.jobs ++ bs) (sym is) in
+      subst (λ (bs : List ℕ). Holds256 hasher bs) (sym whole) (takes (jobs_text clock done.jobs) done.digested)
+
+  -- A part of a block's text was written after all of the blocks before it. All text that was
+  -- written is a beginning of the report of all jobs so far, and what follows it.
+  pub part-written : (done : IsDone clock first ahead mid names blocks polls sent before taken digest) (more : List JobRecord) (plan : PlanRecord) (written : Option (List ℕ)) (text rest tail : List ℕ) (count : ℕ)
+      → plan.clock ≡ clock → plan.jobs ≡ done.jobs ++ more
+      → text ++ rest ≡ with_total (jobs_text clock more) (polls_of clock (done.jobs ++ more)) ++ tail → count ≤ length text
+      → Appends taken written (take count text)
+      → (sent + count ≤ length (report_of plan ++ tail)) × Appends before written (take (sent + count) (report_of plan ++ tail))
+  part-written done more plan written text rest tail count clocks jobs begins within writes =
+      let old : List ℕ = jobs_text clock done.jobs in
+      let whole : report_of plan ++ tail ≡ old ++ (text ++ rest) = tail-is done more plan text rest tail clocks jobs begins in
+      let part : take (sent + count) (report_of plan ++ tail) ≡ old ++ take count text =
       ap (λ (bs : List ℕ). take (sent + count) bs) whole ∙ ap (λ n. take (n + count) (old ++ (text ++ rest))) done.told
       ∙ take-append-add old (text ++ rest) count ∙ ap (λ (bs : List ℕ). old ++ bs) (take-append-le count text rest within) in
-      let long : length (report_of plan) ≡ length old + (length text + length rest) =
+      let long : length (report_of plan ++ tail) ≡ length old + (length text + length rest) =
       ap (λ (bs : List ℕ). length bs) whole ∙ length-append old (text ++ rest) ∙ ap (λ n. length old + n) (length-append text rest) in (
         omega (arith, long, done.told, within),
         rw part (Appends-trans before taken written _ _ done.written writes),
       )
 
-  -- the last block went out whole
-  pub all-written : (done : IsDone clock first ahead mid names blocks polls sent before taken) (more : List JobRecord) (plan : PlanRecord) (written : Option (List ℕ)) (text : List ℕ)
+  -- the last block went out whole, and what follows the report
+  pub all-written : (done : IsDone clock first ahead mid names blocks polls sent before taken digest) (more : List JobRecord) (plan : PlanRecord) (written : Option (List ℕ)) (text tail : List ℕ)
       → plan.clock ≡ clock → plan.jobs ≡ done.jobs ++ more
-      → text ≡ with_total (jobs_text clock more) (polls_of clock (done.jobs ++ more))
-      → Appends taken written text → Appends before written (report_of plan)
-  all-written done more plan written text clocks jobs is writes =
+      → text ≡ with_total (jobs_text clock more) (polls_of clock (done.jobs ++ more)) ++ tail
+      → Appends taken written text → Appends before written (report_of plan ++ tail)
+  all-written done more plan written text tail clocks jobs is writes =
       let old : List ℕ = jobs_text clock done.jobs in
-      let total : ℕ = polls_of clock (done.jobs ++ more) in
-      let whole : report_of plan ≡ old ++ text =
-      ap (λ (c : Ticks). with_total (jobs_text c plan.jobs) (polls_of c plan.jobs)) clocks
-      ∙ ap (λ js. with_total (jobs_text clock js) (polls_of clock js)) jobs
-      ∙ ap (λ (bs : List ℕ). with_total bs total) (text_of_two clock done.jobs more)
-      ∙ with_total-append old (jobs_text clock more) total
-      ∙ ap (λ (bs : List ℕ). old ++ bs) (sym is) in
+      let whole : report_of plan ++ tail ≡ old ++ text =
+      tail-is done more plan text [] tail clocks jobs (append-nil text ∙ is) ∙ ap (λ (bs : List ℕ). old ++ bs) (append-nil text) in
       rw whole (Appends-trans before taken written _ _ done.written writes)

@@ -1,28 +1,34 @@
 -- How the run of a population ends after some blocks are done.
-use Rattle.std.proofs.Common.{◌≡◌, ◌<◌, ◌≤◌, ◌+◌, ◌*◌, ◌-◌, ◌/◌, ℕ, zero, suc, List, [], ◌∷◌, ◌++◌, length, take, Bool, true, false, Ok, Err, Option, None, Some, refl, ap, ◌∙◌, length-append, arith, inl, inr, String, Global}
+use Rattle.std.proofs.Common.{◌≡◌, ◌<◌, ◌≤◌, ◌+◌, ◌*◌, ◌-◌, ◌/◌, ℕ, zero, suc, List, [], ◌∷◌, ◌++◌, length, take, Bool, true, false, Ok, Err, Option, None, Some, refl, ap, ◌∙◌, append-nil, length-append, arith, inl, inr, String, Global}
 use Rattle.std.proofs.lemmas.Bool.{cases_lt}
 use Rattle.std.specs.Prelude.{IsErrOf, IsTrue, ◌↔◌}
 use Rattle.std.specs.BTreeSet.{BTreeSet}
 use Rattle.std.specs.Io.KnownBytes.{Appends, IsAtEnd, prepend_known}
 use Rattle.std.proofs.lemmas.Nat.{div-mul-add}
+use Rattle.sha2.specs.Hashers.{Holds256}
+use Rattle.sha2.specs.declared.Sha256.{Sha256}
 use Rattle.zs_drive.specs.Values.{JobRecord}
 use Rattle.zs_engine.specs.declared.fault.EngineFault.{EngineFault}
 use Rattle.zs_run.specs.Head.{HeadRecord, head_of}
 use Rattle.zs_run.specs.Plan.{PlanRecord}
-use Rattle.zs_run.specs.PlanReport.{jobs_text, polls_of, with_total}
-use Rattle.zs_population.specs.Blocks.{IsDone, IsWhole}
+use Rattle.zs_run.specs.PlanReport.{jobs_text, polls_of, report_of, with_total}
+use Rattle.zs_population.specs.Blocks.{IsDone}
 use Rattle.zs_lines.specs.Buffers.{Took}
-use Rattle.zs_population.specs.Ending.{Ends, WroteBlocks}
+use Rattle.zs_lines.specs.Lines.{lines_of}
+use Rattle.zs_population.specs.Ending.{Ends, IsWhole, WroteBlocks}
 use Rattle.zs_population.specs.Population.{block_jobs}
-use Rattle.zs_population.specs.Reads.{BlockFault, BlockReads, HeadFault, names_of}
+use Rattle.zs_population.specs.Reads.{BlockFault, BlockReads, HeadFault, SkipFault, names_of}
 use Rattle.zs_population.specs.Skipped.{Skipped}
+use Rattle.zs_population.specs.Sums.{sums_of}
+use Rattle.zs_population.specs.Tails.{EndFault, StaysAtEnd}
+use Rattle.zs_population.specs.Trailer.{FollowsReport, trailer_of}
 use Rattle.zs_population.specs.declared.range.JobRange.{JobRange}
 use Rattle.zs_population.specs.declared.fault.PopulationFault.{PopulationFault}
-use Rattle.zs_population.specs.declared.fault.PopulationFault.TheVariants.{Read, Line, Engine, Write, Words}
+use Rattle.zs_population.specs.declared.fault.PopulationFault.TheVariants.{Read, Line, Engine, Write, Report, Missing, Words}
 use Rattle.zs_lines.proofs.LineLemmas.{begins-more}
 use Rattle.zs_population.proofs.JobsLemmas.{jobs-length, jobs-refused}
-use Rattle.zs_population.proofs.RangeLemmas.{has-begun, is-population, job-refused, plan_with}
-use Rattle.zs_population.proofs.Done.{all-written, joined, part-written}
+use Rattle.zs_population.proofs.RangeLemmas.{has-begun, is-population-read, job-refused, plan_with}
+use Rattle.zs_population.proofs.Done.{all-written, digested-report, joined, part-written, total-follows}
 
 unset : (mark : Bool) → (IsTrue mark → ⊥) → mark ≡ false
 unset true never = absurd (never refl)
@@ -45,10 +51,20 @@ ends-early before jobs items size count many within short last less = elim (case
   | inr full ↦ (let whole : before + size ≡ count = last (omega (arith, full, within, short)) in absurd (omega (arith, whole, many, full, less)))
 ]
 
-module _ (range : JobRange) (start after ahead mid : Option (List ℕ)) (first : List ℕ) (head : HeadRecord) (names : BTreeSet (String Global)) (polls sent : ℕ) (before taken : Option (List ℕ))
+-- what follows a report of a population, if it is known, or anything
+some-tail : (part : Bool) (range : JobRange) (before : Option (List ℕ)) (report : List ℕ) → (tail : List ℕ) × FollowsReport part range before report tail
+some-tail false range before report = ([], refl)
+some-tail true range None report = ([], tt)
+some-tail true range (Some known) report = (trailer_of range (sums_of (lines_of known)) report, refl)
+
+module _ (range : JobRange) (start after ahead mid : Option (List ℕ)) (first : List ℕ) (head : HeadRecord) (names : BTreeSet (String Global)) (polls sent : ℕ) (before taken : Option (List ℕ)) (digest : Sha256)
     (took : Took start after (first ∷ [])) (skips : Skipped range.first after ahead) (is : head_of first ≡ Ok head) where
   abbrev Done : ℕ → Type 0
-  Done blocks = IsDone head.clock range.first ahead mid names blocks polls sent before taken
+  Done blocks = IsDone head.clock range.first ahead mid names blocks polls sent before taken digest
+
+  -- the plan of the head and some jobs
+  abbrev Planned : List JobRecord → PlanRecord
+  Planned jobs = plan_with range start after ahead first head took skips is jobs
 
   -- what was written if the run stopped after a block
   pub wrote : (blocks : ℕ) → Done blocks → blocks * block_jobs ≤ range.count → (left : Option (List ℕ)) (read failed flushed : Bool) (Untouched : Type 0)
@@ -86,6 +102,8 @@ module _ (range : JobRange) (start after ahead mid : Option (List ℕ)) (first :
       )
   ends-unread blocks size done within few left read flushed Untouched (Engine fault) whole stopped marks = absurd stopped
   ends-unread blocks size done within few left read flushed Untouched (Write count) whole stopped marks = absurd stopped
+  ends-unread blocks size done within few left read flushed Untouched (Report number fault) whole stopped marks = absurd stopped
+  ends-unread blocks size done within few left read flushed Untouched (Missing next) whole stopped marks = absurd stopped
   ends-unread blocks size done within few left read flushed Untouched (Words fault) whole stopped marks = absurd stopped
 
   -- the next block did not run
@@ -95,47 +113,100 @@ module _ (range : JobRange) (start after ahead mid : Option (List ℕ)) (first :
   ends-unrun blocks done within left read flushed Untouched fault whole clear =
       (clear, refl, (blocks, wrote blocks done within left read false flushed Untouched whole))
 
-  -- a part of the next block was written
-  pub ends-unwritten : (blocks : ℕ) (done : Done blocks) (now left written : Option (List ℕ)) (known : BTreeSet (String Global)) (more : List JobRecord)
-      (text rest : List ℕ) (count : ℕ) (read flushed : Bool) (Untouched : Type 0) → BlockReads (range.first + blocks * block_jobs) mid now names known more
+  -- the next block ran, and the rest of the population can't be read
+  pub ends-unended : (blocks : ℕ) (done : Done blocks) → blocks * block_jobs ≤ range.count → (left : Option (List ℕ)) (read flushed : Bool) (Untouched : Type 0) (fault : PopulationFault)
+      → IsWhole blocks flushed Untouched → EndFault fault → IsTrue read ↔ (fault ≡ Read)
+      → Ends range (Err fault) (record { before = start; left = left; failed = read }) (record { before = before; taken = taken; failed = false; flushed = flushed }) Untouched
+  ends-unended blocks done within left read flushed Untouched Read whole stopped marks =
+      (marks.1 refl, refl, (blocks, wrote blocks done within left read false flushed Untouched whole))
+  ends-unended blocks done within left read flushed Untouched (Line line fault) whole stopped marks = absurd stopped
+  ends-unended blocks done within left read flushed Untouched (Engine fault) whole stopped marks = (
+    unset read (λ set. let no : Engine fault ≡ Read = marks.0 set in cc),
+    refl,
+    (blocks, wrote blocks done within left read false flushed Untouched whole),
+  )
+  ends-unended blocks done within left read flushed Untouched (Write count) whole stopped marks = absurd stopped
+  ends-unended blocks done within left read flushed Untouched (Report number fault) whole stopped marks = absurd stopped
+  ends-unended blocks done within left read flushed Untouched (Missing next) whole stopped marks = absurd stopped
+  ends-unended blocks done within left read flushed Untouched (Words fault) whole stopped marks = absurd stopped
+
+  -- a part of the next block, and of what follows the report, was written
+  ends-sent : (blocks : ℕ) (done : Done blocks) (now left written : Option (List ℕ)) (known : BTreeSet (String Global)) (more : List JobRecord)
+      (text rest tail : List ℕ) (count : ℕ) (read flushed : Bool) (Untouched : Type 0) → BlockReads (range.first + blocks * block_jobs) mid now names known more
       → blocks * block_jobs + length more ≤ range.count
-      → text ++ rest ≡ with_total (jobs_text head.clock more) (polls_of head.clock (done.jobs ++ more)) → count ≤ length text → Appends taken written (take count text)
+      → text ++ rest ≡ with_total (jobs_text head.clock more) (polls_of head.clock (done.jobs ++ more)) ++ tail → FollowsReport range.is_part range start (report_of (Planned (done.jobs ++ more))) tail
+      → count ≤ length text → Appends taken written (take count text)
       → read ≡ false
       → Ends range (Err (Write (sent + count))) (record { before = start; left = left; failed = read }) (record { before = before; taken = written; failed = true; flushed = flushed }) Untouched
-  ends-unwritten blocks done now left written known more text rest count read flushed Untouched reads within begin ends writes clear =
-      let plan : PlanRecord = plan_with range start after ahead first head took skips is (done.jobs ++ more) in
-      let all = joined head.clock range.first ahead mid now names known blocks polls sent before taken done more reads in
-      let part = part-written head.clock range.first ahead mid now names known blocks polls sent before taken done more plan written text rest count refl refl begin ends writes in (
+  ends-sent blocks done now left written known more text rest tail count read flushed Untouched reads within begin follows ends writes clear =
+      let plan : PlanRecord = Planned (done.jobs ++ more) in
+      let all = joined head.clock range.first ahead mid now names known blocks polls sent before taken digest done more reads in
+      let part = part-written head.clock range.first ahead mid now names known blocks polls sent before taken digest done more plan written text rest tail count refl refl begin ends writes in (
         clear,
         refl,
         (
           plan,
+          tail,
           has-begun range start after ahead first head took skips is now all.lines (done.jobs ++ more) all.read all.are (omega (arith, length-append done.jobs more, done.many, within)),
+          follows,
           part.0,
           part.1,
         ),
       )
 
-  -- the last block was written
-  pub ends-well : (blocks : ℕ) (done : Done blocks) (left written : Option (List ℕ)) (buffer : List ℕ) (known : BTreeSet (String Global)) (more : List JobRecord)
-      (text : List ℕ) (read flushed : Bool) (Untouched : Type 0) (end : Unit {0}) → BlockReads (range.first + blocks * block_jobs) mid (prepend_known buffer left) names known more
+  -- a part of the next block was written, which isn't the last one
+  pub ends-unwritten : (blocks : ℕ) (done : Done blocks) (now left written : Option (List ℕ)) (known : BTreeSet (String Global)) (more : List JobRecord)
+      (text : List ℕ) (count : ℕ) (read flushed : Bool) (Untouched : Type 0) → BlockReads (range.first + blocks * block_jobs) mid now names known more
       → blocks * block_jobs + length more ≤ range.count
-      → (blocks * block_jobs + length more < range.count → IsAtEnd (prepend_known buffer left))
-      → text ≡ with_total (jobs_text head.clock more) (polls_of head.clock (done.jobs ++ more)) → Appends taken written text
+      → text ≡ jobs_text head.clock more → count ≤ length text → Appends taken written (take count text)
+      → read ≡ false
+      → Ends range (Err (Write (sent + count))) (record { before = start; left = left; failed = read }) (record { before = before; taken = written; failed = true; flushed = flushed }) Untouched
+  ends-unwritten blocks done now left written known more text count read flushed Untouched reads within tells ends writes clear =
+      let total : ℕ = polls_of head.clock (done.jobs ++ more) in
+      let tail = some-tail range.is_part range start (report_of (Planned (done.jobs ++ more))) in
+      ends-sent blocks done now left written known more text (with_total [] total ++ tail.0) tail.0 count read flushed Untouched reads within
+      (ap (λ (bs : List ℕ). bs ++ (with_total [] total ++ tail.0)) tells ∙ total-follows (jobs_text head.clock more) total tail.0) tail.1 ends writes clear
+
+  -- a part of the last block, and of what follows the report, was written
+  pub ends-unwritten-last : (blocks : ℕ) (done : Done blocks) (now left written : Option (List ℕ)) (known : BTreeSet (String Global)) (more : List JobRecord)
+      (block tail text : List ℕ) (hasher : Sha256) (count : ℕ) (read flushed : Bool) (Untouched : Type 0) → BlockReads (range.first + blocks * block_jobs) mid now names known more
+      → blocks * block_jobs + length more ≤ range.count
+      → block ≡ with_total (jobs_text head.clock more) (polls_of head.clock (done.jobs ++ more)) → text ≡ block ++ tail
+      → ((m : List ℕ) → Holds256 digest m → Holds256 hasher (m ++ block)) → ((report : List ℕ) → Holds256 hasher report → FollowsReport range.is_part range start report tail)
+      → count ≤ length text → Appends taken written (take count text)
+      → read ≡ false
+      → Ends range (Err (Write (sent + count))) (record { before = start; left = left; failed = read }) (record { before = before; taken = written; failed = true; flushed = flushed }) Untouched
+  ends-unwritten-last blocks done now left written known more block tail text hasher count read flushed Untouched reads within tells adds takes follows ends writes clear =
+      let plan : PlanRecord = Planned (done.jobs ++ more) in
+      let digested = digested-report head.clock range.first ahead mid now names known blocks polls sent before taken digest done more plan block hasher refl refl tells takes in
+      ends-sent blocks done now left written known more text [] tail count read flushed Untouched reads within
+      (append-nil text ∙ adds ∙ ap (λ (bs : List ℕ). bs ++ tail) tells) (follows (report_of plan) digested) ends writes clear
+
+  -- the last block was written, and what follows the report
+  pub ends-well : (blocks : ℕ) (done : Done blocks) (now left written : Option (List ℕ)) (known : BTreeSet (String Global)) (more : List JobRecord)
+      (block tail text : List ℕ) (hasher : Sha256) (read flushed : Bool) (Untouched : Type 0) (end : Unit {0}) → BlockReads (range.first + blocks * block_jobs) mid now names known more
+      → blocks * block_jobs + length more ≤ range.count
+      → (blocks * block_jobs + length more < range.count → IsAtEnd now) → StaysAtEnd now left
+      → block ≡ with_total (jobs_text head.clock more) (polls_of head.clock (done.jobs ++ more)) → text ≡ block ++ tail
+      → ((m : List ℕ) → Holds256 digest m → Holds256 hasher (m ++ block)) → ((report : List ℕ) → Holds256 hasher report → FollowsReport range.is_part range start report tail)
+      → Appends taken written text
       → read ≡ false → flushed ≡ true
       → Ends range (Ok end) (record { before = start; left = left; failed = read }) (record { before = before; taken = written; failed = false; flushed = flushed }) Untouched
-  ends-well blocks done left written buffer known more text read flushed Untouched end reads within ended tells writes clear flush =
-      let now : Option (List ℕ) = prepend_known buffer left in
-      let plan : PlanRecord = plan_with range start after ahead first head took skips is (done.jobs ++ more) in
-      let all = joined head.clock range.first ahead mid now names known blocks polls sent before taken done more reads in
-      let many : length (done.jobs ++ more) ≡ blocks * block_jobs + length more = omega (arith, length-append done.jobs more, done.many) in (
+  ends-well blocks done now left written known more block tail text hasher read flushed Untouched end reads within ended stays tells adds takes follows writes clear flush =
+      let plan : PlanRecord = Planned (done.jobs ++ more) in
+      let all = joined head.clock range.first ahead mid now names known blocks polls sent before taken digest done more reads in
+      let many : length (done.jobs ++ more) ≡ blocks * block_jobs + length more = omega (arith, length-append done.jobs more, done.many) in
+      let digested = digested-report head.clock range.first ahead mid now names known blocks polls sent before taken digest done more plan block hasher refl refl tells takes in (
         clear,
         refl,
         (
           plan,
-          is-population range start after ahead first head took skips is left buffer read all.lines (done.jobs ++ more) all.read all.are (omega (arith, many, within))
-              (λ short. ended (omega (arith, many, short))),
-          all-written head.clock range.first ahead mid now names known blocks polls sent before taken done more plan written text refl refl tells writes,
+          tail,
+          is-population-read range start after ahead first head took skips is now left read all.lines (done.jobs ++ more) all.read all.are (omega (arith, many, within))
+              (λ short. ended (omega (arith, many, short))) stays,
+          follows (report_of plan) digested,
+          all-written head.clock range.first ahead mid now names known blocks polls sent before taken digest done more plan written text tail refl refl
+              (adds ∙ ap (λ (bs : List ℕ). bs ++ tail) tells) writes,
         ),
         flush,
       )
@@ -165,4 +236,22 @@ ends-headless range start left taken read flushed Untouched (Line line fault) st
 )
 ends-headless range start left taken read flushed Untouched (Engine fault) stopped marks same = absurd stopped
 ends-headless range start left taken read flushed Untouched (Write count) stopped marks same = absurd stopped
+ends-headless range start left taken read flushed Untouched (Report number fault) stopped marks same = absurd stopped
+ends-headless range start left taken read flushed Untouched (Missing next) stopped marks same = absurd stopped
 ends-headless range start left taken read flushed Untouched (Words fault) stopped marks same = absurd stopped
+
+-- the lines before the range can't be skipped
+pub ends-unskipped : (range : JobRange) (start left taken : Option (List ℕ)) (read flushed : Bool) (Untouched : Type 0) (fault : PopulationFault) → SkipFault range.first fault → IsTrue read ↔ (fault ≡ Read) → Untouched
+    → Ends range (Err fault) (record { before = start; left = left; failed = read }) (record { before = taken; taken = taken; failed = false; flushed = flushed }) Untouched
+ends-unskipped range start left taken read flushed Untouched Read stopped marks same = (marks.1 refl, refl, (0, same))
+ends-unskipped range start left taken read flushed Untouched (Line line fault) stopped marks same = (
+  unset read (λ set. let no : Line line fault ≡ Read = marks.0 set in cc),
+  refl,
+  λ other. absurd (other stopped.1),
+  rw (before-range range line stopped.0) same,
+)
+ends-unskipped range start left taken read flushed Untouched (Engine fault) stopped marks same = absurd stopped
+ends-unskipped range start left taken read flushed Untouched (Write count) stopped marks same = absurd stopped
+ends-unskipped range start left taken read flushed Untouched (Report number fault) stopped marks same = absurd stopped
+ends-unskipped range start left taken read flushed Untouched (Missing next) stopped marks same = absurd stopped
+ends-unskipped range start left taken read flushed Untouched (Words fault) stopped marks same = absurd stopped

@@ -24,7 +24,7 @@ behind-one job front (Ok jobs) = refl
 behind-one job front (Err e) = refl
 
 -- what was found first, if all was found
-found : {A B : Type 0} (r : Result A RejectedLine) (f : A → Result B RejectedLine) (b : B) → r >>= f ≡ Ok b → (a : A) × (r ≡ Ok a) × (f a ≡ Ok b)
+pub found : {A B : Type 0} (r : Result A RejectedLine) (f : A → Result B RejectedLine) (b : B) → r >>= f ≡ Ok b → (a : A) × (r ≡ Ok a) × (f a ≡ Ok b)
 found (Ok a) f b is = (a, refl, is)
 found (Err e) f b is = absurd (let no : Err e ≡ Ok b = is in cc)
 

@@ -1,5 +1,14 @@
 pub mod JobsLemmas
 pub mod RangeLemmas
 pub mod BlockLemmas
+pub mod SumLemmas
 pub mod Done
 pub mod Endings
+pub mod Trailers
+pub mod FewerNames
+pub mod Joined
+pub mod LastLines
+pub mod PartLemmas
+pub mod ReadLemmas
+pub mod AddLemmas
+pub mod JoinLemmas

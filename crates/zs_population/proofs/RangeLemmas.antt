@@ -1,5 +1,5 @@
 -- The population of the jobs of a range, by the lines that were read, skipped and taken.
-use Rattle.std.proofs.Common.{◌≡◌, ◌<◌, ◌≤◌, ◌+◌, ◌-◌, ℕ, List, [], ◌∷◌, ◌++◌, length, take, drop, replicate, Bool, Ok, Err, Option, None, Some, refl, sym, ap, ◌∙◌, arith, inl, inr}
+use Rattle.std.proofs.Common.{◌≡◌, ◌<◌, ◌≤◌, ◌+◌, ◌-◌, ℕ, List, [], ◌∷◌, ◌++◌, length, take, drop, replicate, Bool, Ok, Err, Option, None, Some, refl, sym, ap, ◌∙◌, append-nil, arith, inl, inr}
 use Rattle.std.proofs.lemmas.Bool.{cases_lt}
 use Rattle.std.specs.Io.KnownBytes.{IsAtEnd, prepend_known}
 use Rattle.std.specs.Prelude.{IfSome}
@@ -12,11 +12,12 @@ use Rattle.zs_run.specs.Head.{HeadRecord, head_of}
 use Rattle.zs_run.specs.Plan.{PlanRecord}
 use Rattle.zs_lines.specs.Lines.{lines_of}
 use Rattle.zs_lines.specs.Buffers.{BeginsWith, Took}
-use Rattle.zs_lines.proofs.LineLemmas.{all-read, begins}
+use Rattle.zs_lines.proofs.LineLemmas.{begins, took-nothing}
 use Rattle.zs_population.specs.Ending.{Begins, IsPopulation, WasRefused}
 use Rattle.zs_population.specs.Population.{RejectedLine, jobs_at, lines_in, population_of}
 use Rattle.zs_population.specs.Skipped.{Skipped}
 use Rattle.zs_population.specs.declared.range.JobRange.{JobRange}
+use Rattle.zs_population.proofs.SumLemmas.{ended-known}
 use Rattle.zs_population.proofs.JobsLemmas.{jobs-length, refused-stays}
 
 -- ---- heads
@@ -97,6 +98,13 @@ ended-lines : (ahead left : Option (List ℕ)) (lines : List (List ℕ)) → IfS
 ended-lines None left lines is = (tt, tt)
 ended-lines (Some xs) left lines is = is
 
+-- lines that were taken, up to the end
+all-taken : (ahead now left : Option (List ℕ)) (lines : List (List ℕ)) → Took ahead now lines → IsAtEnd now → IfSome now (λ xs. left ≡ Some [])
+    → IfSome ahead (λ xs. (lines_of xs ≡ lines) × (left ≡ Some []))
+all-taken None now left lines took end none = tt
+all-taken (Some xs) None left lines took end none = absurd took
+all-taken (Some xs) (Some ys) left lines took end none = (took ∙ ap (λ (bs : List ℕ). lines ++ lines_of bs) end ∙ append-nil lines, none)
+
 -- ---- populations
 
 populated : (range : JobRange) (first : List ℕ) (all lines : List (List ℕ)) (head : HeadRecord) (jobs : List JobRecord) → head_of first ≡ Ok head
@@ -120,7 +128,7 @@ module _ (range : JobRange) (start after ahead : Option (List ℕ)) (first : Lis
   pub has-begun : (now : Option (List ℕ)) (lines : List (List ℕ)) (jobs : List JobRecord) → Took ahead now lines → jobs_at range.first [] lines ≡ Ok jobs → length jobs ≤ range.count
       → Begins range start (plan_with jobs)
   has-begun now lines jobs reads are within =
-      let begun : JobRange = record { first = range.first; count = length jobs } in
+      let begun : JobRange = record { first = range.first; count = length jobs; is_part = range.is_part } in
       let rest = rest-of ahead lines (begins ahead now lines reads) in
       let all = all-lines range.first start after ahead first (lines ++ rest.0) took skips rest.1 in
       let many : length lines ≡ length jobs = jobs-length range.first [] lines jobs are in
@@ -128,14 +136,14 @@ module _ (range : JobRange) (start after ahead : Option (List ℕ)) (first : Lis
       (within, (first ∷ all.0, populated begun first all.0 lines head jobs is exact are, all.2))
 
   -- all jobs of the range were read
-  pub is-population : (left : Option (List ℕ)) (buffer : List ℕ) (failed : Bool) (lines : List (List ℕ)) (jobs : List JobRecord) → Took ahead (prepend_known buffer left) lines
-      → jobs_at range.first [] lines ≡ Ok jobs → length jobs ≤ range.count → (length jobs < range.count → IsAtEnd (prepend_known buffer left))
+  pub is-population-read : (now left : Option (List ℕ)) (failed : Bool) (lines : List (List ℕ)) (jobs : List JobRecord) → Took ahead now lines
+      → jobs_at range.first [] lines ≡ Ok jobs → length jobs ≤ range.count → (length jobs < range.count → IsAtEnd now) → (IsAtEnd now → IfSome now (λ xs. left ≡ Some []))
       → IsPopulation range (record { before = start; left = left; failed = failed }) (plan_with jobs)
-  is-population left buffer failed lines jobs reads are within end =
+  is-population-read now left failed lines jobs reads are within end stays =
       let many : length lines ≡ length jobs = jobs-length range.first [] lines jobs are in
       elim (cases_lt (length jobs) range.count) [
         | inl short ↦ (
-            let ended = ended-lines ahead left lines (all-read ahead left buffer lines reads (end short)) in
+            let ended = ended-lines ahead left lines (all-taken ahead now left lines reads (end short) (stays (end short))) in
             let all = all-lines range.first start after ahead first lines took skips ended.0 in
             let whole : lines_in range all.0 ≡ lines = ap (take range.count) all.1 ∙ take_all range.count lines (omega (arith, many, within)) in (
               (first ∷ all.0, populated range first all.0 lines head jobs is whole are, all.2),
@@ -143,7 +151,7 @@ module _ (range : JobRange) (start after ahead : Option (List ℕ)) (first : Lis
             )
             )
         | inr full ↦ (
-            let rest = rest-of ahead lines (begins ahead (prepend_known buffer left) lines reads) in
+            let rest = rest-of ahead lines (begins ahead now lines reads) in
             let all = all-lines range.first start after ahead first (lines ++ rest.0) took skips rest.1 in
             let exact : lines_in range all.0 ≡ lines = ap (take range.count) all.1 ∙ take_at lines rest.0 range.count (omega (arith, many, within, full)) in (
               (first ∷ all.0, populated range first all.0 lines head jobs is exact are, all.2),
@@ -151,6 +159,13 @@ module _ (range : JobRange) (start after ahead : Option (List ℕ)) (first : Lis
             )
             )
       ]
+
+  pub is-population : (left : Option (List ℕ)) (buffer : List ℕ) (failed : Bool) (lines : List (List ℕ)) (jobs : List JobRecord) → Took ahead (prepend_known buffer left) lines
+      → jobs_at range.first [] lines ≡ Ok jobs → length jobs ≤ range.count → (length jobs < range.count → IsAtEnd (prepend_known buffer left))
+      → IsPopulation range (record { before = start; left = left; failed = failed }) (plan_with jobs)
+  is-population left buffer failed lines jobs reads are within end =
+      is-population-read (prepend_known buffer left) left failed lines jobs reads are within end
+      (λ ended. ended-known (prepend_known buffer left) left buffer [] (took-nothing (prepend_known buffer left)) ended)
 
   -- a line of the range is no job
   pub job-refused : (lines : List (List ℕ)) (refusal : RejectedLine) → BeginsWith ahead lines → length lines ≤ range.count → jobs_at range.first [] lines ≡ Err refusal → WasRefused range start refusal

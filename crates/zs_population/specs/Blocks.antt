@@ -1,8 +1,10 @@
 -- The state of a run between two blocks.
-use Rattle.std.specs.Prelude.{◌≡◌, ℕ, zero, suc, ◌*◌, List, [], length, Bool, true, Option, Ok}
+use Rattle.std.specs.Prelude.{◌≡◌, ℕ, ◌*◌, List, [], length, Option, Ok}
 use Rattle.std.specs.BTreeSet.{BTreeSet}
 use Rattle.std.specs.Io.KnownBytes.{Appends}
 use Rattle.std.proofs.Common.{String, Global}
+use Rattle.sha2.specs.Hashers.{Holds256}
+use Rattle.sha2.specs.declared.Sha256.{Sha256}
 use Rattle.zs_agenda.specs.Ticks.{Ticks}
 use Rattle.zs_drive.specs.Values.{JobRecord}
 use Rattle.zs_run.specs.Names.{KnowsNames}
@@ -11,18 +13,12 @@ use Rattle.zs_lines.specs.Buffers.{Took}
 use Rattle.zs_population.specs.Population.{block_jobs, jobs_at}
 use Rattle.zs_population.specs.Reads.{names_of}
 
--- what is seen of the writer: it is unchanged before the first block, and flushed after each
--- block
-abbrev pub IsWhole : ℕ → Bool → Type 0 → Type 0
-IsWhole zero flushed Untouched = Untouched
-IsWhole (suc n) flushed Untouched = flushed ≡ true
-
 -- Some blocks were read, run, written and counted. `ahead` are the bytes that the reader and the
 -- buffer had before and have now, `before` and `taken` those of the writer. `first` is the number
--- of the first job.
+-- of the first job, and `digest` has taken in what was written.
 pub record IsDone (clock : Ticks) (first : ℕ) (ahead ahead_now : Option (List ℕ))
     (names : BTreeSet (String Global)) (blocks polls sent : ℕ)
-    (before taken : Option (List ℕ)) : Type 0 where
+    (before taken : Option (List ℕ)) (digest : Sha256) : Type 0 where
   pub lines : List (List ℕ)
   pub jobs : List JobRecord
   pub read : Took ahead ahead_now lines
@@ -32,3 +28,4 @@ pub record IsDone (clock : Ticks) (first : ℕ) (ahead ahead_now : Option (List 
   pub counted : polls ≡ polls_of clock jobs
   pub written : Appends before taken (jobs_text clock jobs)
   pub told : sent ≡ length (jobs_text clock jobs)
+  pub digested : Holds256 digest (jobs_text clock jobs)

@@ -1,8 +1,10 @@
 -- The population of some lines, or the first line that is rejected. The first line is the
 -- document of a plan without jobs, each other line a job. A population is a plan that may have
 -- more jobs. It has the jobs of a range; the other lines of jobs aren't looked at.
-use Rattle.std.specs.Prelude.{ℕ, ◌+◌, List, [], ◌∷◌, ◌++◌, take, drop, nat_lt, None}
-use Rattle.std.specs.Prelude.{Result, Ok, Err}
+use Rattle.std.specs.Prelude.{◌≡◌, ◌≤◌, ℕ, ◌+◌, List, [], ◌∷◌, ◌++◌, take, drop, nat_lt, true}
+use Rattle.std.specs.Prelude.{false}
+use Rattle.std.specs.Prelude.{None, Result, Ok, Err}
+use Rattle.zs_term.specs.Saturating.{max_moment}
 use Rattle.zs_drive.specs.Values.{JobRecord}
 use Rattle.zs_pool.specs.Limits.{max_tasks}
 use Rattle.zs_run.specs.declared.plan_fault.PlanFault.{PlanFault}
@@ -52,6 +54,15 @@ jobs_at number names (line ∷ lines) = do
   job ← job_at number names line
   jobs ← jobs_at (number + 1) (names ++ job.name ∷ []) lines
   Ok (job ∷ jobs)
+
+-- all jobs that a population may have
+abbrev pub all_jobs : JobRange
+all_jobs = record { first = 0; count = max_moment; is_part = false }
+
+-- The first job of a range is one that a population may have, or its end; so is the end of a part.
+abbrev pub FitsPopulation : JobRange → Type 0
+FitsPopulation range = (range.first ≤ max_population)
+    × (range.is_part ≡ true → range.first + range.count ≤ max_population)
 
 -- the lines of the jobs of a range, of all lines of jobs
 abbrev pub lines_in : JobRange → List (List ℕ) → List (List ℕ)

@@ -16,7 +16,8 @@ use Rattle.zs_lines.specs.declared.buffer.LineFault.TheVariants as unread
 use Rattle.zs_population.specs.declared.range.JobRange.{JobRange}
 use Rattle.zs_population.specs.declared.fault.PopulationFault.{PopulationFault}
 use Rattle.zs_population.specs.declared.fault.PopulationFault.TheVariants.{Read, Line, Engine}
-use Rattle.zs_population.specs.declared.fault.PopulationFault.TheVariants.{Write, Words}
+use Rattle.zs_population.specs.declared.fault.PopulationFault.TheVariants.{Write, Report}
+use Rattle.zs_population.specs.declared.fault.PopulationFault.TheVariants.{Missing, Words}
 
 -- the names of jobs
 abbrev pub names_of : List JobRecord → List (List ℕ)
@@ -67,6 +68,8 @@ BlockFault first size old known (Line line fault) =
     → BlockRefused first (k + 1) old known (record { line = line; fault = fault }))
 BlockFault first size old known (Engine fault) = ⊥
 BlockFault first size old known (Write sent) = ⊥
+BlockFault first size old known (Report number fault) = ⊥
+BlockFault first size old known (Missing next) = ⊥
 BlockFault first size old known (Words fault) = ⊥
 
 -- why the head can't be read
@@ -77,6 +80,8 @@ HeadFault old (Line line fault) =
     → (range : JobRange) → WasRefused range old (record { line = line; fault = fault }))
 HeadFault old (Engine fault) = ⊥
 HeadFault old (Write sent) = ⊥
+HeadFault old (Report number fault) = ⊥
+HeadFault old (Missing next) = ⊥
 HeadFault old (Words fault) = ⊥
 
 -- why lines can't be skipped
@@ -85,4 +90,6 @@ SkipFault count Read = ⊤
 SkipFault count (Line line fault) = (line < count + 2) × (fault ≡ faults.Memory)
 SkipFault count (Engine fault) = ⊥
 SkipFault count (Write sent) = ⊥
+SkipFault count (Report number fault) = ⊥
+SkipFault count (Missing next) = ⊥
 SkipFault count (Words fault) = ⊥

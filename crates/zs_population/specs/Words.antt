@@ -1,22 +1,26 @@
 -- The request that the words of a command line are, and how the program ends by it.
-use Rattle.std.specs.Prelude.{◌≡◌, ◌≤◌, ℕ, ◌-◌, List, [], ◌∷◌, length, take, drop, codes, ⊤}
+use Rattle.std.specs.Prelude.{◌≡◌, ◌≤◌, ℕ, ◌-◌, List, [], ◌∷◌, length, map, take, drop, codes}
+use Rattle.std.specs.Prelude.{String, string_bytes, ⊤}
 use Rattle.std.specs.Prelude.{bytes_eq, nat_le, ◌==◌, ◌&&◌, true, false}
 use Rattle.std.specs.Prelude.{if◌then◌else◌, Option, Some, None, option_and_then, Result, Ok, Err}
 use Rattle.std.specs.Io.KnownBytes.{Appends}
+use Rattle.std.specs.Global.{Global}
 use Rattle.zs_term.specs.Saturating.{max_moment}
 use Rattle.zs_run.specs.Headline.{Reading, Writing}
 use Rattle.zs_lines.specs.Numbers.{digits_from, number_of}
 use Rattle.zs_population.specs.Ending.{Ends}
-use Rattle.zs_population.specs.Population.{max_population}
+use Rattle.zs_population.specs.Joining.{JoinEnds}
+use Rattle.zs_population.specs.Population.{FitsPopulation, all_jobs, max_population}
 use Rattle.zs_population.specs.declared.range.JobRange.{JobRange}
 use Rattle.zs_population.specs.declared.fault.OptionFault.{OptionFault}
-use Rattle.zs_population.specs.declared.fault.OptionFault.TheVariants.{Unknown, Jobs}
+use Rattle.zs_population.specs.declared.fault.OptionFault.TheVariants.{Unknown, Jobs, Check}
 use Rattle.zs_population.specs.declared.fault.PopulationFault.{PopulationFault}
 use Rattle.zs_population.specs.declared.fault.PopulationFault.TheVariants.{Read, Line, Engine}
-use Rattle.zs_population.specs.declared.fault.PopulationFault.TheVariants.{Write, Words}
+use Rattle.zs_population.specs.declared.fault.PopulationFault.TheVariants.{Write, Report}
+use Rattle.zs_population.specs.declared.fault.PopulationFault.TheVariants.{Missing, Words}
 use Rattle.zs_population.specs.declared.program.TheConstants.{HELP, VERSION}
 use Rattle.zs_population.specs.declared.words.Request.{Request}
-use Rattle.zs_population.specs.declared.words.Request.TheVariants.{Help, Version, Run}
+use Rattle.zs_population.specs.declared.words.Request.TheVariants.{Help, Version, Run, Join}
 
 -- the number that a text is after two dots
 abbrev pub after_dots : List ℕ → Option ℕ
@@ -27,7 +31,7 @@ after_dots (b ∷ (c ∷ bs)) = if b == 46 && c == 46 then number_of bs else Non
 -- the jobs from a first number on, up to a last one, which isn't one of them
 abbrev pub jobs_up_to : ℕ → ℕ → Option JobRange
 jobs_up_to first end = if nat_le first end && nat_le end max_population
-    then Some (record { first = first; count = end - first }) else None
+    then Some (record { first = first; count = end - first; is_part = true }) else None
 
 -- the jobs from the number of the first digits on
 abbrev pub jobs_from : List ℕ → ℕ × ℕ → Option JobRange
@@ -37,10 +41,6 @@ jobs_from text found = if found.1 == 0 then None
 -- the jobs that a text is, as `5..20`
 abbrev pub jobs_of : List ℕ → Option JobRange
 jobs_of text = option_and_then (jobs_from text) (digits_from 0 0 text)
-
--- all jobs that a population may have
-abbrev pub all_jobs : JobRange
-all_jobs = record { first = 0; count = max_moment }
 
 -- the request to run a range
 abbrev pub run_of : Option JobRange → Result Request OptionFault
@@ -54,18 +54,29 @@ option_request name value = if bytes_eq name (codes "--jobs") then run_of (jobs_
     else (if bytes_eq name (codes "--version") then Ok Version
     else Err Unknown))
 
--- the request of words; a value that is missing is empty
+-- the request of a word and those after it; a value that is missing is empty
+abbrev pub values_request : List ℕ → List (List ℕ) → Result Request OptionFault
+values_request name [] = option_request name []
+values_request name (value ∷ []) = option_request name value
+values_request name (value ∷ (word ∷ words)) = Err Unknown
+
+-- the request to join the reports that these words name
+abbrev pub join_of : List (List ℕ) → Result Request OptionFault
+join_of [] = Err Check
+join_of (path ∷ paths) = Ok Join
+
+-- the request of words
 abbrev pub request_of : List (List ℕ) → Result Request OptionFault
 request_of [] = Ok (Run all_jobs)
-request_of (name ∷ []) = option_request name []
-request_of (name ∷ (value ∷ [])) = option_request name value
-request_of (name ∷ (value ∷ (word ∷ words))) = Err Unknown
+request_of (name ∷ words) =
+    if bytes_eq name (codes "--check") then join_of words else values_request name words
 
--- the first job of a range is one that a population may have, or its end
-abbrev pub HasFewBefore : Request → Type 0
-HasFewBefore Help = ⊤
-HasFewBefore Version = ⊤
-HasFewBefore (Run range) = range.first ≤ max_population
+-- a range that is run fits a population
+abbrev pub FitsRequest : Request → Type 0
+FitsRequest Help = ⊤
+FitsRequest Version = ⊤
+FitsRequest (Run range) = FitsPopulation range
+FitsRequest Join = ⊤
 
 -- This text was written and flushed, or its first `sent` bytes were.
 abbrev pub WroteText : List ℕ → Result (Unit {0}) PopulationFault → Writing → Type 0
@@ -75,17 +86,22 @@ WroteText text (Err (Line line fault)) w = ⊥
 WroteText text (Err (Engine fault)) w = ⊥
 WroteText text (Err (Write sent)) w = (w.failed ≡ true) × (sent ≤ length text)
     × Appends w.before w.taken (take sent text)
+WroteText text (Err (Report number fault)) w = ⊥
+WroteText text (Err (Missing next)) w = ⊥
 WroteText text (Err (Words fault)) w = ⊥
 
--- How the program ends, by its request.
-abbrev pub ProgramEnds : Result Request OptionFault
+-- How the program ends, by its request. Reports are joined if their bytes are known.
+abbrev pub ProgramEnds : Result Request OptionFault → List (Option (List ℕ))
     → Result (Unit {0}) PopulationFault → Reading → Writing → Type 0 → Type 0
-ProgramEnds (Ok Help) result r w Untouched = WroteText HELP.now result w
-ProgramEnds (Ok Version) result r w Untouched = WroteText VERSION.now result w
-ProgramEnds (Ok (Run range)) result r w Untouched = Ends range result r w Untouched
-ProgramEnds (Err fault) result r w Untouched = (result ≡ Err (Words fault)) × Untouched
+ProgramEnds (Ok Help) reports result r w Untouched = WroteText HELP.now result w
+ProgramEnds (Ok Version) reports result r w Untouched = WroteText VERSION.now result w
+ProgramEnds (Ok (Run range)) reports result r w Untouched = Ends range result r w Untouched
+ProgramEnds (Ok Join) reports result r w Untouched = JoinEnds reports result r w Untouched
+ProgramEnds (Err fault) reports result r w Untouched = (result ≡ Err (Words fault)) × Untouched
 
--- How the program ends, by the words after its name.
-abbrev pub WordsEnd : List (List ℕ)
-    → Result (Unit {0}) PopulationFault → Reading → Writing → Type 0 → Type 0
-WordsEnd words = ProgramEnds (request_of words)
+-- How the program ends, by the words after its name. Those after the first may name reports, of
+-- which some have known bytes.
+abbrev pub WordsEnd : Result (Unit {0}) PopulationFault → (List ℕ → Option (List ℕ))
+    → List (String Global) → Reading → Writing → Type 0 → Type 0
+WordsEnd result contents words = let texts = map string_bytes words in
+    ProgramEnds (request_of texts) (map contents (drop 1 texts)) result

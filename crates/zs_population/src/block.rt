@@ -12,15 +12,17 @@ ghost use Rattle.zs_population.specs.Ending.{SentPart};
 ghost use Rattle.zs_population.specs.Population.{block_jobs, job_at, max_population};
 ghost use Rattle.zs_population.specs.Reads.{AddsJob, BlockFault, BlockReads, HeadFault, HeadReads, IsNoJob, SkipFault, line_fault_of};
 ghost use Rattle.zs_population.specs.Skipped.{Skipped};
+ghost use Rattle.zs_population.specs.Sums.{CountsLines};
 
 use crate::fault::PopulationFault;
+use crate::lines::LineReader;
 use std::alloc::Global;
 use std::collections::BTreeSet;
 use std::sync::Wait;
 use std::thread::Threads;
 use zs_drive::{Job, Keeping};
 use zs_engine::{EngineFault, run_keeping};
-use zs_lines::{Buffer, LineFault};
+use zs_lines::LineFault;
 use zs_pool::{Gate, MAX_TASKS};
 use zs_run::{
     Drain, Head, MAX_BYTES, Plan, PlanFault, Source, add_job, append_jobs, append_total, read_head,
@@ -54,16 +56,18 @@ fn line_fault(line: u64, fault: LineFault) -> PopulationFault
 pub(crate) fn read_first<R: Source>(
     alloc: Global,
     reader: &mut R,
-    buffer: &mut Buffer,
+    lines: &mut LineReader,
 ) -> Result<Head, PopulationFault>
     requires clear { R.mark reader.old ≡ false }
-    ensures head { IfOk result (λ head. HeadReads (ahead R.remaining buffer.old reader.old)
-        (ahead R.remaining buffer.new reader.new) (head_record head)) }
-    ensures fault { IfErr result (HeadFault (ahead R.remaining buffer.old reader.old)) }
+    ensures head { IfOk result (λ head. HeadReads (ahead R.remaining lines.old.buffer reader.old)
+        (ahead R.remaining lines.new.buffer reader.new) (head_record head)) }
+    ensures sums { OnOk result
+        (CountsLines R.remaining lines.old reader.old lines.new reader.new) }
+    ensures fault { IfErr result (HeadFault (ahead R.remaining lines.old.buffer reader.old)) }
     ensures marks { IsTrue (R.mark reader.new) ↔ IsErrOf result PopulationFault.Read }
 {
     let mut line = Vec::new(alloc);
-    match buffer.next_line(reader, &mut line, MAX_BYTES) {
+    match lines.next_line(reader, &mut line, MAX_BYTES) {
         Ok(true) => {}
         Ok(false) => {
             return Err(PopulationFault::Line {
@@ -83,20 +87,22 @@ pub(crate) fn read_first<R: Source>(
 pub(crate) fn skip_lines<R: Source>(
     alloc: Global,
     reader: &mut R,
-    buffer: &mut Buffer,
+    lines: &mut LineReader,
     count: u64,
 ) -> Result<(), PopulationFault>
     requires clear { R.mark reader.old ≡ false }
     requires few { count ≤ max_population }
-    ensures skipped { OnOk result (Skipped count (ahead R.remaining buffer.old reader.old)
-        (ahead R.remaining buffer.new reader.new)) }
+    ensures skipped { OnOk result (Skipped count (ahead R.remaining lines.old.buffer reader.old)
+        (ahead R.remaining lines.new.buffer reader.new)) }
+    ensures sums { OnOk result
+        (CountsLines R.remaining lines.old reader.old lines.new reader.new) }
     ensures fault { IfErr result (SkipFault count) }
     ensures marks { IsTrue (R.mark reader.new) ↔ IsErrOf result PopulationFault.Read }
 {
     let mut line = Vec::new(alloc);
     let mut number = 0;
     while number < count {
-        match buffer.next_line(reader, &mut line, usize::MAX) {
+        match lines.next_line(reader, &mut line, usize::MAX) {
             Ok(true) => {}
             Ok(false) => return Ok(()),
             Err(LineFault::Read) => return Err(PopulationFault::Read),
@@ -169,7 +175,7 @@ pub(crate) fn block_size(count: u64, blocks: u64) -> u64
 pub(crate) fn read_block<R: Source>(
     alloc: Global,
     reader: &mut R,
-    buffer: &mut Buffer,
+    lines: &mut LineReader,
     names: &mut BTreeSet<String>,
     first: u64,
     size: u64,
@@ -179,19 +185,21 @@ pub(crate) fn read_block<R: Source>(
     requires block { size ≤ block_jobs }
     ensures size { IfOk result (λ jobs. length jobs.items ≤ size) }
     ensures few { IfOk result (λ jobs. first + length jobs.items ≤ max_population) }
-    ensures jobs { IfOk result (λ jobs. BlockReads first (ahead R.remaining buffer.old reader.old)
-        (ahead R.remaining buffer.new reader.new) names.old names.new (map job_record jobs.items)) }
+    ensures jobs { IfOk result (λ jobs. BlockReads first (ahead R.remaining lines.old.buffer reader.old)
+        (ahead R.remaining lines.new.buffer reader.new) names.old names.new (map job_record jobs.items)) }
     ensures last { IfOk result (λ jobs. length jobs.items < size
-        → IsAtEnd (ahead R.remaining buffer.new reader.new)) }
+        → IsAtEnd (ahead R.remaining lines.new.buffer reader.new)) }
+    ensures sums { OnOk result
+        (CountsLines R.remaining lines.old reader.old lines.new reader.new) }
     ensures fault { IfErr result
-        (BlockFault first size (ahead R.remaining buffer.old reader.old) names.old) }
+        (BlockFault first size (ahead R.remaining lines.old.buffer reader.old) names.old) }
     ensures marks { IsTrue (R.mark reader.new) ↔ IsErrOf result PopulationFault.Read }
 {
     let mut jobs = Vec::new(alloc);
     let mut line = Vec::new(alloc);
     while (jobs.len() as u64) < size {
         let number = first + jobs.len() as u64;
-        match buffer.next_line(reader, &mut line, MAX_BYTES) {
+        match lines.next_line(reader, &mut line, MAX_BYTES) {
             Ok(true) => {}
             Ok(false) => return Ok(jobs),
             Err(fault) => return Err(line_fault(number + 2, fault)),
@@ -259,7 +267,7 @@ pub(crate) fn run_block<T: Threads + Wait + Sync, G: Gate>(
 /// Writes the text of a block and flushes. Returns the number of bytes sent, with those before.
 pub(crate) fn write_block<W: Drain>(
     writer: &mut W,
-    text: &str,
+    text: &[u8],
     before: u128,
 ) -> Result<u128, PopulationFault>
     requires clear { W.mark writer.old ≡ false }
@@ -273,7 +281,7 @@ pub(crate) fn write_block<W: Drain>(
         (W.contents writer.old) (W.contents writer.new)) }
     ensures marks { W.mark writer.new ≡ is_err result }
 {
-    match write_all(writer, text.as_bytes()) {
+    match write_all(writer, text) {
         Ok(()) => Ok(before + text.len() as u128),
         Err(sent) => Err(PopulationFault::Write {
             sent: before + sent as u128,

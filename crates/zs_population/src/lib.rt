@@ -14,10 +14,16 @@
 
 mod block;
 mod fault;
+mod joining;
+mod laws;
+mod lines;
 mod program;
 mod range;
+mod report;
 mod running;
+mod trailer;
 mod words;
 
-pub use fault::{OptionFault, PopulationFault, exit_code, status};
+pub use fault::{OptionFault, PopulationFault, ReportFault, exit_code, status};
+pub use joining::Files;
 pub use program::run_words;

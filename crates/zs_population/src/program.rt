@@ -4,6 +4,7 @@ ghost use Rattle.zs_lines.specs.Streams.{ByWriter, reading, writing};
 ghost use Rattle.zs_population.specs.Words.{WordsEnd, WroteText};
 
 use crate::fault::PopulationFault;
+use crate::joining::{Files, join_reports};
 use crate::running::run_population;
 use crate::words::{Request, request_of};
 use std::alloc::Global;
@@ -14,14 +15,16 @@ use zs_run::{Drain, Source, write_all};
 
 const VERSION: &str = "zsched-population 0.3.0\n";
 
-const HELP: &str = "usage: zsched-population [--jobs A..B] < POPULATION
+const HELP: &str = "usage: zsched-population [--jobs A..B | --check REPORT..] < POPULATION
 
 Reads JSON lines: first a plan without jobs, then a job a line.
 Writes the report of all jobs, as of one plan.
 
-  --jobs A..B  runs jobs A to B - 1 alone, counted from 0
-  --help       prints this
-  --version    prints the version
+  --jobs A..B       runs jobs A to B - 1 alone, counted from 0. Ends with a line
+                    that says of which jobs and which population the report is
+  --check REPORT..  joins such reports, in order, to the report of all jobs
+  --help            prints this
+  --version         prints the version
 ";
 
 // Writes a text and flushes.
@@ -37,22 +40,24 @@ fn print<W: Drain>(writer: &mut W, text: &str) -> Result<(), PopulationFault>
 }
 
 /// Does what the words after the program's name say: without a word, it runs all jobs.
-pub fn run_words<T: Threads + Wait + Sync, G: Gate, R: Source, W: Drain>(
+pub fn run_words<T: Threads + Wait + Sync, G: Gate, F: Files, R: Source, W: Drain>(
     rt: &T,
     alloc: Global,
     gate: &G,
     words: &[String],
+    files: &F,
     reader: &mut R,
     writer: &mut W,
 ) -> Result<(), PopulationFault>
     requires reader_clear { R.mark reader.old ≡ false }
     requires writer_clear { W.mark writer.old ≡ false }
 
-    ensures ends { ByWriter W.contents W.mark W.flushed writer.old writer.new (WordsEnd
-        (map string_bytes words.now) result (reading R.remaining R.mark reader.old reader.new)) }
+    ensures ends { ByWriter W.contents W.mark W.flushed writer.old writer.new (WordsEnd result
+        (F.contents files.now) words.now (reading R.remaining R.mark reader.old reader.new)) }
 {
     match request_of(words) {
         Ok(Request::Run(range)) => run_population(rt, alloc, gate, range, reader, writer),
+        Ok(Request::Join) => join_reports(alloc, files, &words[1..], reader, writer),
         Ok(Request::Help) => print(writer, HELP),
         Ok(Request::Version) => print(writer, VERSION),
         Err(fault) => Err(PopulationFault::Words(fault)),

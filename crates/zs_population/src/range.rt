@@ -8,4 +8,6 @@ pub(crate) struct JobRange {
     pub(crate) first: u64,
     /// How many they are, at most.
     pub(crate) count: u64,
+    /// Whether they are a part, so that a trailer follows their report.
+    pub(crate) is_part: bool,
 }

@@ -1,7 +1,7 @@
 //! The request that the words of a command line are.
-ghost use Rattle.std.specs.Prelude.{◌≡◌, ◌≤◌, IfOk, IfSome, map, string_bytes};
-ghost use Rattle.zs_population.specs.Population.{max_population};
-ghost use Rattle.zs_population.specs.Words.{HasFewBefore, after_dots, jobs_of, option_request, request_of};
+ghost use Rattle.std.specs.Prelude.{◌≡◌, IfOk, IfSome, map, string_bytes};
+ghost use Rattle.zs_population.specs.Population.{FitsPopulation};
+ghost use Rattle.zs_population.specs.Words.{FitsRequest, after_dots, jobs_of, option_request, request_of};
 
 use crate::block::MAX_POPULATION;
 use crate::fault::OptionFault;
@@ -17,6 +17,8 @@ pub(crate) enum Request {
     Version,
     /// The report of the jobs of a range.
     Run(JobRange),
+    /// The report of all jobs, from those of the ranges that the words after the first name.
+    Join,
 }
 
 // The number that a text is after two dots.
@@ -32,10 +34,10 @@ fn after_dots(text: &[u8]) -> Option<u64>
     }
 }
 
-// The jobs that a text is, as `5..20`.
-fn jobs(text: &[u8]) -> Option<JobRange>
+/// The jobs that a text is, as `5..20`.
+pub(crate) fn jobs(text: &[u8]) -> Option<JobRange>
     ensures value { result ≡ jobs_of text.now }
-    ensures few { IfSome result (λ range. range.first ≤ max_population) }
+    ensures few { IfSome result FitsPopulation }
 {
     let (first, count) = digits(text)?;
     if count == 0 {
@@ -46,6 +48,7 @@ fn jobs(text: &[u8]) -> Option<JobRange>
         Some(JobRange {
             first,
             count: end - first,
+            is_part: true,
         })
     } else {
         None
@@ -56,7 +59,7 @@ fn jobs(text: &[u8]) -> Option<JobRange>
 #[tactic(auto, unfolding(crate::specs::Words::option_request))]
 fn option_request(name: &str, value: &str) -> Result<Request, OptionFault>
     ensures value { result ≡ option_request name.now value.now }
-    ensures few { IfOk result HasFewBefore }
+    ensures few { IfOk result FitsRequest }
 {
     if name == "--jobs" {
         match jobs(value.as_bytes()) {
@@ -75,14 +78,22 @@ fn option_request(name: &str, value: &str) -> Result<Request, OptionFault>
 /// The request of the words after the program's name.
 pub(crate) fn request_of(words: &[String]) -> Result<Request, OptionFault>
     ensures value { result ≡ request_of (map string_bytes words.now) }
-    ensures few { IfOk result HasFewBefore }
+    ensures few { IfOk result FitsRequest }
 {
     let Some((name, rest)) = words.split_first() else {
         return Ok(Request::Run(JobRange {
             first: 0,
             count: u64::MAX,
+            is_part: false,
         }));
     };
+    if name.as_str() == "--check" {
+        return if rest.is_empty() {
+            Err(OptionFault::Check)
+        } else {
+            Ok(Request::Join)
+        };
+    }
     let Some((value, rest)) = rest.split_first() else {
         return option_request(name.as_str(), "");
     };

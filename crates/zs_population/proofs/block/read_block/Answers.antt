@@ -12,7 +12,7 @@ use Rattle.zs_population.proofs.block.read_block.Goals as goal
 pub loop-alloc-init : goal.loop-alloc-init
 loop-alloc-init g c =
     let none : c.new-jobs.result.items ≡ [] = c.new-jobs.ensures.items in
-    rw none (omega arith, c.requires.clear, omega (arith, c.requires.few), reads-nothing c.args.first _ c.args.names.now)
+    rw none (omega arith, c.requires.clear, omega (arith, c.requires.few), reads-nothing c.args.first _ c.args.names.now, λ all is. is)
 
 -- the next line can't be read
 pub returns-in-Err-clause-fault : goal.returns-in-Err-clause-fault
@@ -21,9 +21,9 @@ returns-in-Err-clause-fault g c =
     let k : ℕ = c.len-in-loop-alloc.result in
     let count : k ≡ length jobs = omega (arith, c.len-in-loop-alloc.ensures, c.loop-alloc.jobs.ok.0, length-map c.loop-alloc.jobs.items job_record) in
     let few : k < c.args.size = omega (arith, c.len-in-loop-alloc.ensures, c.len.ensures, c.loop-alloc-test.true) in
-    let old : Option (List ℕ) = prepend_known c.args.buffer.now (g.R.Source.remaining c.args.reader.now) in
-    let mid : Option (List ℕ) = prepend_known c.loop-alloc.buffer (g.R.Source.remaining c.loop-alloc.reader) in
-    let now : Option (List ℕ) = prepend_known c.next_line.new.self (g.R.Source.remaining c.next_line.new.reader) in
+    let old : Option (List ℕ) = prepend_known c.args.lines.now.buffer (g.R.Source.remaining c.args.reader.now) in
+    let mid : Option (List ℕ) = prepend_known c.loop-alloc.lines.buffer (g.R.Source.remaining c.loop-alloc.reader) in
+    let now : Option (List ℕ) = prepend_known c.next_line.new.self.buffer (g.R.Source.remaining c.next_line.new.reader) in
     rw c.line_fault.ensures.value
     (block-unread c.args.first c.args.size k (c.args.first + k) old mid now c.args.names.now c.loop-alloc.names c.next_line.new.line.items jobs c.in-Err.fault
     count refl few c.loop-alloc.invariant.3 c.in-Err.ensures.line)
@@ -35,9 +35,9 @@ returns-in-Err-add_line-clause-fault g c =
     let k : ℕ = c.len-in-loop-alloc.result in
     let count : k ≡ length jobs = omega (arith, c.len-in-loop-alloc.ensures, c.loop-alloc.jobs.ok.0, length-map c.loop-alloc.jobs.items job_record) in
     let few : k < c.args.size = omega (arith, c.len-in-loop-alloc.ensures, c.len.ensures, c.loop-alloc-test.true) in
-    let old : Option (List ℕ) = prepend_known c.args.buffer.now (g.R.Source.remaining c.args.reader.now) in
-    let mid : Option (List ℕ) = prepend_known c.loop-alloc.buffer (g.R.Source.remaining c.loop-alloc.reader) in
-    let now : Option (List ℕ) = prepend_known c.next_line.new.self (g.R.Source.remaining c.next_line.new.reader) in
+    let old : Option (List ℕ) = prepend_known c.args.lines.now.buffer (g.R.Source.remaining c.args.reader.now) in
+    let mid : Option (List ℕ) = prepend_known c.loop-alloc.lines.buffer (g.R.Source.remaining c.loop-alloc.reader) in
+    let now : Option (List ℕ) = prepend_known c.next_line.new.self.buffer (g.R.Source.remaining c.next_line.new.reader) in
     let line : List ℕ = c.next_line.new.line.items in
     let took : Took mid now (line ∷ []) = rw c.in-Ok-true.field-0-test at c.in-Ok-true.ensures.line in (
       k,
@@ -54,9 +54,9 @@ loop-alloc-preserved g c =
     let after : List JobRecord = map job_record c.add_line.new.jobs.items in
     let k : ℕ = c.len-in-loop-alloc.result in
     let place : c.args.first + k ≡ c.args.first + length jobs = omega (arith, c.len-in-loop-alloc.ensures, c.loop-alloc.jobs.ok.0, length-map c.loop-alloc.jobs.items job_record) in
-    let old : Option (List ℕ) = prepend_known c.args.buffer.now (g.R.Source.remaining c.args.reader.now) in
-    let mid : Option (List ℕ) = prepend_known c.loop-alloc.buffer (g.R.Source.remaining c.loop-alloc.reader) in
-    let now : Option (List ℕ) = prepend_known c.next_line.new.self (g.R.Source.remaining c.next_line.new.reader) in
+    let old : Option (List ℕ) = prepend_known c.args.lines.now.buffer (g.R.Source.remaining c.args.reader.now) in
+    let mid : Option (List ℕ) = prepend_known c.loop-alloc.lines.buffer (g.R.Source.remaining c.loop-alloc.reader) in
+    let now : Option (List ℕ) = prepend_known c.next_line.new.self.buffer (g.R.Source.remaining c.next_line.new.reader) in
     let line : List ℕ = c.next_line.new.line.items in
     let took : Took mid now (line ∷ []) = rw c.in-Ok-true.field-0-test at c.in-Ok-true.ensures.line in
     let count : length c.add_line.new.jobs.items ≡ length c.loop-alloc.jobs.items + 1 = search rules in
@@ -66,4 +66,9 @@ loop-alloc-preserved g c =
       search rules,
       reads-more c.args.first (c.args.first + k) old mid now c.args.names.now c.loop-alloc.names c.add_line.new.names line jobs after
           place c.loop-alloc.invariant.3 took (rw c.as_slice.ensures.value at adds),
+      λ all is. c.in-Ok-true.ensures.sums all (c.loop-alloc.invariant.4 all is),
     )
+
+-- no line remains
+pub returns-in-Ok-false-clause-sums : goal.returns-in-Ok-false-clause-sums
+returns-in-Ok-false-clause-sums g c = λ all is. c.in-Ok-false.ensures.sums all (c.loop-alloc.invariant.4 all is)
