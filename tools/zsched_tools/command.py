@@ -123,9 +123,9 @@ def number(least, most, words):
 
 
 @contextlib.contextmanager
-def new_folder(path, other):
+def new_folder(path):
     """A folder that gets its name after all files in it are written, and that is removed if something fails before;
-    None without a path. `other` is what else may write it."""
+    None without a path."""
     if path is None:
         yield None
         return
@@ -134,7 +134,7 @@ def new_folder(path, other):
         raise Refused(f"{folder}: exists, and isn't an empty folder")
     making = folder.with_name(folder.name + ".partial")
     if making.exists():
-        raise Refused(f"{making}: exists: another {other} writes it, or an interrupted one left it (then remove it)")
+        raise Refused(f"{making}: exists: another run writes it, or an interrupted one left it (then remove it)")
     making.mkdir()
     try:
         yield making

@@ -164,7 +164,7 @@ def more_text(text, at):
     return choose(
         at, (mark in "}]", 1, f"this {mark} closes nothing", "remove it, or add the bracket that it closes"),
         (mark in "{[" and '"jobs"' not in text[:at] and '"name"' in text[at:at + 4000], 1, second,
-         "zsched-plan split N --lines makes plans of a document and of jobs in lines"),
+         "zsched-population runs a document and jobs in lines"),
         (mark in "{[", 1, second, "a plan is one document, with one list of jobs"),
         (mark == ":" or re.match(r'\s*"?\w+"?\s*:', text), 1, more, f"a plan is an object in braces: {SKETCH}"),
     ) or _comment(text, at) or Cause(at, 1, more, "remove it")

@@ -68,7 +68,7 @@ def one_job(horizon, schedule, entry):
 
 def cut_plans(clock, jobs, most=None):
     """Plans of some jobs with a horizon or a list of ticks, in order, each within the program's limits, and the most
-    jobs of a plan. `zsched-plan split --lines` makes the same plans from these jobs."""
+    jobs of a plan."""
     before, after = f'{{"{"ticks" if isinstance(clock, list) else "horizon"}":{clock},"jobs":[', "\n]}\n"
     most = most or MOST_JOBS
     while True:

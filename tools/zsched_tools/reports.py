@@ -3,7 +3,7 @@
 docs/FORMATS.md has the form of a report. The reader checks the form of each line, and compares the lines with each
 other: attempts are numbered from 1 and don't overlap, there is a step exactly if the schedule was stepped, an ending is
 that of the last attempt, and the polls are the moments at which attempts began or ended. Numbers are whole and go up to
-2^64 - 1; the total of the last line has no bound, since a joined report may have any number of jobs.
+2^64 - 1; the total of the last line has no bound, since the report of a population may have any number of jobs.
 
 Reports that a tool has just got from the program are cut into jobs by `blocks_of`, and aren't checked again."""
 import dataclasses
@@ -248,14 +248,14 @@ _FORMS = {
 }
 
 
-def text_lines(source, longest=LONGEST_LINE):
+def text_lines(source):
     """The lines of an open text file, without their newlines. A line without one is rejected."""
     number = 0
-    while line := source.readline(longest):
+    while line := source.readline(LONGEST_LINE):
         number += 1
         if line[-1] != "\n":
-            if len(line) == longest:
-                raise Refused(f"line {number} is longer than {longest - 1} characters")
+            if len(line) == LONGEST_LINE:
+                raise Refused(f"line {number} is longer than {LONGEST_LINE - 1} characters")
             raise Refused(f"line {number} is cut, since no newline ends it: {shown(line)}")
         yield line[:-1]
 
@@ -265,10 +265,10 @@ def as_text(binary):
     return io.TextIOWrapper(binary, encoding="latin-1", newline="\n")
 
 
-def records(file, progress=None, reader=None):
+def records(file, progress=None):
     """The records of a report, a binary file, each with its job: attempts and ending of each job, and last the total
     without a job. The records before a fault are yielded before the fault is raised."""
-    reader = reader or Reader()
+    reader = Reader()
     try:
         for text in text_lines(as_text(file)):
             if progress is not None:

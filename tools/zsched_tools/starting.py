@@ -64,14 +64,13 @@ def run(tool, work):
     return command.run(tool, quietly)
 
 
-def command(tool, arguments, work, is_reported=lambda given: False):
-    """The main function of a command: `arguments` makes its parser, `work` gets the parsed command line. If
-    `is_reported`, a line says that the reader of standard output closed it."""
+def command(tool, arguments, work):
+    """The main function of a command: `arguments` makes its parser, `work` gets the parsed command line."""
     def main():
         from zsched_tools import command
         given = parsed(arguments())
         command.color(given.color)
-        return (command.run if is_reported(given) else run)(tool, lambda: work(given))
+        return run(tool, lambda: work(given))
     return main
 
 

@@ -42,7 +42,7 @@ def clients_in(report):
 
 
 def certified(scenario, simulated, reports, others=()):
-    """The clients, those in the reports of a plan's parts and the runs of the others, by their numbers. Uncertified
+    """The clients, those in the reports of the plans and the runs of the others, by their numbers. Uncertified
     says how they differ from the simulated endings, or from the scenario."""
     others = dict(others)
     found = [client for report in reports for client in clients_in(report)] if len(others) < len(simulated) else []

@@ -13,7 +13,6 @@ from zsched_tools.outage.panels import curve_page, draw_curves
 from zsched_tools.outage.scenario import DOWN, in_text, read_scenario
 from zsched_tools.outage.search import FIRST_LOOK, Search, Unsettled, name_of, schedules_of
 from zsched_tools.place import FaultAt, in_file, tell
-from zsched_tools.plan.split import write_parts
 from zsched_tools.program import MOST_JOBS, cut_plans
 from zsched_tools.progress import Now
 from zsched_tools.words import duration, plural
@@ -79,8 +78,8 @@ Recovery is the time from the end of the last window that is down to the last su
 failed."""
 FILES = """With -o FOLDER, for each policy: NAME.json (the plan), NAME.report (its certified report) and NAME.csv
 (second, begun, ok, err, running: attempts that began and ended in each second, and those that run when it ends). A plan
-of more than 10,000 jobs or 16,777,216 bytes is written as JSON lines, NAME.jsonl, and as parts in NAME.parts, as
-`zsched-plan split --lines` makes them. Standard error says so before the plan runs."""
+of more than 10,000 jobs or 16,777,216 bytes is written as JSON lines for zsched-population, NAME.jsonl. Standard error
+says so before the plan runs."""
 EPILOG = FILES + """
 
 Exit status: 0; 1 if a policy exceeds a limit --max-.., if a scenario doesn't settle (with the open clients), or if a
@@ -109,26 +108,26 @@ def _settled(search, say):
 
 
 def simulate(scenario, zsched, name, most_passes, say):
-    """The run of one policy: its jobs, plans, the most jobs of a plan, reports and figures. `say` is called at each
-    step with the share that is done and a line. It raises Unsettled or Uncertified."""
+    """The run of one policy: its jobs, plans, reports and figures. `say` is called at each step with the share that is
+    done and a line. It raises Unsettled or Uncertified."""
     scenario = scenario.limited(scenario.policies[name][0].timeout)
     schedules, firsts = (schedules_of(scenario, name, most) for most in [None, FIRST_LOOK])
-    warn_of_parts(name, schedules)
+    warn_of_lines(name, schedules)
     try:
         search = Search(scenario, zsched, schedules, most_passes, firsts)
         jobs, endings, others = _settled(search, say)
-        plans, most = cut_plans(scenario.horizon, jobs)
+        plans, _ = cut_plans(scenario.horizon, jobs)
         say(1, "the certificate")
         reports = [program.run_plan(zsched, plan) for plan in plans]
         clients = certified(scenario, endings, reports, others)
     except (Unsettled, Uncertified) as failed:
         raise type(failed)(f"policy {name}: {failed}") from None
     text = scenario.policies[name][0].source
-    return jobs, plans, most, reports, Figures(scenario, text, clients, list(map(name_of, others)), search.passes + 1)
+    return jobs, plans, reports, Figures(scenario, text, clients, list(map(name_of, others)), search.passes + 1)
 
 
 def _joined(reports):
-    """The report of a plan from those of its parts."""
+    """The report of all jobs, from those of the plans that have them in order."""
     bodies, total = [], 0
     for report in reports:
         body, _, last = report.rstrip(b"\n").rpartition(b"\n")
@@ -138,13 +137,12 @@ def _joined(reports):
 
 
 def write_files(folder, name, horizon, found):
-    jobs, plans, most, reports, figures = found
+    jobs, plans, reports, figures = found
     if len(plans) == 1:
         command.write(folder / f"{name}.json", plans[0])
     else:
-        population = folder / f"{name}.jsonl"
-        command.write(population, "".join(f"{line}\n" for line in [f'{{"horizon":{horizon}}}', *jobs]))
-        write_parts(population, True, most, folder / f"{name}.parts")
+        lines = [f'{{"horizon":{horizon}}}', *jobs]
+        command.write(folder / f"{name}.jsonl", "".join(f"{line}\n" for line in lines))
     command.write(folder / f"{name}.report", _joined(reports))
     command.write(folder / f"{name}.csv", figures.curve.csv())
 
@@ -159,19 +157,19 @@ def warn_of_attempts(scenario, name, color):
     plan_size.warn(TOOL, many and f"policy {name}: {many}", color)
 
 
-def warn_of_parts(name, schedules):
+def warn_of_lines(name, schedules):
     """Warns, before a policy runs, if its jobs exceed one plan; it checks only the schedules of the clients."""
     count, size = len(schedules), sum(map(len, schedules))
     if count > MOST_JOBS or size > program.MAX_BYTES:
         print(f"{TOOL}: policy {name}: {count:,} jobs with schedules of {size:,} bytes are more than one plan of "
-              f"{MOST_JOBS:,} jobs and {program.MAX_BYTES:,} bytes: it is written as JSON lines and parts",
+              f"{MOST_JOBS:,} jobs and {program.MAX_BYTES:,} bytes: it is written as JSON lines",
               file=sys.stderr)
 
 
 def _all(given, scenario, zsched):
     """Simulates all policies, one after another, and writes the requested files; returns the figures of each."""
     figures = {}
-    with command.new_folder(given.folder, "run") as folder, Now() as progress:
+    with command.new_folder(given.folder) as folder, Now() as progress:
         for name in scenario.policies:
             def say(share, what, name=name):
                 done = 100 * (len(figures) + 0.9 * share) / len(scenario.policies)

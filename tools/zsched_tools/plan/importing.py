@@ -265,7 +265,7 @@ def _from(given):
     data = text.encode()
     if jobs > MOST_JOBS or len(data) > program.MAX_BYTES:
         _say(f"the plan has {jobs} jobs and {len(data)} bytes, and one run takes {MOST_JOBS} and "
-             f"{program.MAX_BYTES}: zsched-plan split cuts it")
+             f"{program.MAX_BYTES}: docs/SCALE.md runs it as JSON lines")
     if given.out is None:
         sys.stdout.buffer.write(data)
     else:

@@ -1,4 +1,4 @@
-"""The command zsched-report: converts a report to other forms, and joins many reports."""
+"""The command zsched-report: converts a report to other forms."""
 import argparse
 import gc
 import os
@@ -8,10 +8,8 @@ from zsched_tools import command, load, starting
 from zsched_tools.command import Refused
 from zsched_tools.drawing import View
 from zsched_tools.durations import duration_argument
-from zsched_tools.manifest import is_manifest
 from zsched_tools.picture import MOST_JOBS
 from zsched_tools.progress import Progress
-from zsched_tools.report.join import write_joined, write_known
 from zsched_tools.report.lines import write_lines, write_report
 from zsched_tools.report.page import load_page, page
 from zsched_tools.report.summary import SORTS, Options, write_summary
@@ -19,15 +17,15 @@ from zsched_tools.reports import as_text
 from zsched_tools.strip import crowd_of, draw_crowd, draw_strip, note_of
 
 TOOL = "zsched-report"
-DESCRIPTION = """A report of zsched in other forms, and many reports as one.
+DESCRIPTION = """A report of zsched in other forms.
 
   zsched < plan.json | zsched-report summary
   zsched < plan.json | zsched-report load --every 1s
   zsched < plan.json > whole.report && zsched-report svg whole.report > whole.svg"""
 EPILOG = """Exit status: 0; 2 if the report or an option is rejected, with the file and the line on standard error; 3 if
-reading or writing fails. If summary, load, svg, html or join rejects a report, it has written nothing.
-If the reader of standard output closes it (`| head`), all forms except join end by SIGPIPE, without a message.
-docs/FORMATS.md describes reports, and docs/SCALE.md has recipes with join."""
+reading or writing fails. If summary, load, svg or html rejects a report, it has written nothing.
+If the reader of standard output closes it (`| head`), it ends by SIGPIPE, without a message. docs/FORMATS.md describes
+reports."""
 LINES = """Writes a report as JSON lines: an object of type attempt for each attempt with its step, one of type end
 for each job, and one of type total at the end. `next` is null if the schedule is done, `out` is null if the schedule
 wasn't stepped, `waited` is the time since the end of the attempt before. Numbers are whole, at most 2^64 - 1: a program
@@ -50,15 +48,6 @@ data. Attempts that are too near each other share a striped block. If there are 
 load is below them; if there are more than 200, only the load is drawn. The picture is 1240 pixels wide, and a narrower
 window scrolls: on a phone the page of `html` is better."""
 HTML = """Writes the picture of `svg` as a page with a time axis that zooms. The page loads nothing from other hosts."""
-JOIN = """Makes one report of the reports of a plan's parts: the jobs of each, in order, and the sum of all polls.
-With the manifest that `zsched-plan split` wrote, each part's report is compared with its digest part-NNNNNN.sha256, which
-is what `sha256sum part-NNNNNN.json part-NNNNNN.report` prints, and its jobs' names with the manifest. It rejects,
-with the name, a part with a changed byte, a part that is swapped, repeated or of another plan, and a changed plan. If a
-report or a digest is missing, the message has its name, and the status is 3.
-With parts instead of a manifest it compares their lines with each other. It rejects, with the name, a part that is empty,
-cut or not a report, a repeated part or job, and a part with another horizon. It doesn't detect a changed digit of a value
-or an output, a changed name of a job, parts in another order, or a missing part.
-It reads all parts before it writes a byte, so they must be files, not pipes. docs/SCALE.md has recipes."""
 
 
 def _with_source(given, work):
@@ -122,13 +111,6 @@ def _draw(given, is_page):
         _write(piece)
 
 
-def _join(given):
-    if len(given.parts) == 1 and is_manifest(given.parts[0]):
-        write_known(given.parts[0], sys.stdout.buffer.write)
-    else:
-        write_joined(given.parts, sys.stdout.buffer.write)
-
-
 def _step(word):
     found = duration_argument(word)
     if found == 0:
@@ -184,10 +166,6 @@ def _arguments():
         one.add_argument("file", metavar="FILE", nargs="?", help=f"{what}; standard input by default")
         _ADDED.get(name, lambda one: None)(one)
         one.set_defaults(work=work)
-    joined = forms.add_parser("join", description=JOIN, help="one report of many")
-    joined.add_argument("parts", metavar="MANIFEST | PART", nargs="+",
-                        help="the manifest of the parts, or the reports of all parts in order")
-    joined.set_defaults(work=_join)
     return parser
 
 
@@ -197,4 +175,4 @@ def _work(given):
     given.work(given)
 
 
-main = starting.command(TOOL, _arguments, _work, lambda given: given.work is _join)
+main = starting.command(TOOL, _arguments, _work)
