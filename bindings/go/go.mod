@@ -1,3 +1,3 @@
-module example.org/zsched
+module github.com/zsched/zsched/bindings/go
 
 go 1.19

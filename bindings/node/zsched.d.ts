@@ -152,8 +152,9 @@ export interface RetryOptions {
 
 /**
  * Retries until an attempt, which may be asynchronous, doesn't throw, and waits between two. When
- * the schedule is done, the last error is thrown. A wait of 0 lets the event loop turn too. Time and
- * memory don't grow with the attempts, except with collectAll.
+ * the schedule is done, the last error is thrown. An attempt that returns a generator is a TypeError.
+ * A wait of 0 lets the event loop turn too. Time and memory don't grow with the attempts, except with
+ * collectAll.
  *
  * The schedule is stepped at the moment when an attempt ended, but at least 1 millisecond after the
  * one that it planned for it, so its Bounds hold of each run. Without `jitter` no attempt begins

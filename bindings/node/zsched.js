@@ -4,6 +4,8 @@
 // A Schedule doesn't sleep, and neither does a Stepper, whose state has a fixed size; retry really
 // sleeps. The results are proved, the sleeping is not. Moments and inputs are BigInts or whole
 // numbers, from 0 up to 2^64 - 1.
+const { isGeneratorObject } = require('node:util').types;
+
 const calls = load(process.env.ZSCHED_NODE || './zsched.node');
 
 const DONE = 1;
@@ -304,6 +306,21 @@ function begin(start, now, passed, next, error, { jitter = 0, retryAfter }) {
   return until > least ? until : least;
 }
 
+/** Returns the value or the error of an attempt. Throws a TypeError for a generator, which hasn't run yet. */
+async function outcome(attempt, number, signal) {
+  let value;
+  try {
+    value = await attempt(number, signal);
+  } catch (error) {
+    return { error };
+  }
+  if (isGeneratorObject(value)) {
+    throw new TypeError(`zsched: ${attempt.name || 'the attempt'} returns a generator, whose body runs after the call: `
+      + 'retry the function that uses it');
+  }
+  return { value };
+}
+
 async function retry(text, attempt, options = {}) {
   const { inputOf = () => 0, shouldRetry = () => true, onFailedAttempt = () => {}, signal, budget } = options;
   const schedule = begun(text);
@@ -312,13 +329,12 @@ async function retry(text, attempt, options = {}) {
   let error;
   for (let number = 1; ; number += 1) {
     throwIfAborted(signal, error);
-    try {
-      const value = await attempt(number, signal);
+    const ended = await outcome(attempt, number, signal);
+    if ('value' in ended) {
       budget?.add();
-      return value;
-    } catch (thrown) {
-      error = thrown;
+      return ended.value;
     }
+    error = ended.error;
     const now = process.hrtime.bigint();
     const millis = (now - start) / 1000000n;
     const passed = millis > planned ? millis : planned;

@@ -7,6 +7,11 @@ import java.util.ArrayList;
 import java.util.Arrays;
 import java.util.HexFormat;
 import java.util.List;
+import java.util.concurrent.Callable;
+import java.util.concurrent.CompletableFuture;
+import java.util.concurrent.ExecutionException;
+import java.util.concurrent.Executors;
+import java.util.concurrent.ScheduledExecutorService;
 import zsched.Budget;
 import zsched.Retry;
 import zsched.Schedule;
@@ -33,21 +38,41 @@ public final class Client {
         }
     }
 
-    private static void retry(String text, long[] numbers, List<Object> said) throws Exception {
+    private static void retry(String command, String text, long[] numbers, List<Object> said) throws Exception {
         long begun = System.nanoTime();
         int[] attempts = {0};
         Retry retry = Retry.of(text).inputOf(error -> Long.parseUnsignedLong(error.getMessage()));
         retry.on(error -> numbers.length == 2 || numbers[0] != numbers[4]);
+        Callable<String> attempt = () -> {
+            said.add((System.nanoTime() - begun) / 1000);
+            if (attempts[0]++ < numbers[1]) {
+                throw new IOException(Long.toUnsignedString(numbers[0]));
+            }
+            return "done";
+        };
         try {
-            said.add(0, (numbers.length > 2 ? optioned(retry, numbers, said) : retry).call(() -> {
-                said.add((System.nanoTime() - begun) / 1000);
-                if (attempts[0]++ < numbers[1]) {
-                    throw new IOException(Long.toUnsignedString(numbers[0]));
-                }
-                return "done";
-            }));
+            said.add(0, command.equals("later") ? later(retry, attempt)
+                : (numbers.length > 2 ? optioned(retry, numbers, said) : retry).call(attempt));
         } catch (IOException error) {
             said.add(0, error.getMessage());
+        }
+    }
+
+    /** The same asynchronously, on another thread after the first attempt. */
+    private static String later(Retry retry, Callable<String> attempt) throws Exception {
+        ScheduledExecutorService scheduler = Executors.newScheduledThreadPool(1);
+        try {
+            return retry.callAsync(() -> {
+                try {
+                    return CompletableFuture.completedFuture(attempt.call());
+                } catch (Exception error) {
+                    return CompletableFuture.failedFuture(error);
+                }
+            }, scheduler).get();
+        } catch (ExecutionException ended) {
+            throw (Exception) ended.getCause();
+        } finally {
+            scheduler.shutdown();
         }
     }
 
@@ -82,7 +107,7 @@ public final class Client {
         switch (command) {
             case "version" -> said.add(Schedule.version());
             case "moved" -> Stepper.resume(lines[1], new Stepper(lines[0]).state());
-            case "retry" -> retry(text, numbers, said);
+            case "retry", "later" -> retry(command, text, numbers, said);
             case "bounds" -> bounds(text, numbers, said);
             case "many" -> many(text, numbers[0]);
             default -> steps(command, text, numbers, said);

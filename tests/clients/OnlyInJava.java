@@ -1,13 +1,17 @@
 import java.time.Duration;
 import java.util.ArrayList;
+import java.util.Iterator;
 import java.util.List;
+import java.util.concurrent.Callable;
 import java.util.concurrent.CompletableFuture;
 import java.util.concurrent.CompletionException;
 import java.util.concurrent.ExecutionException;
 import java.util.concurrent.Executors;
+import java.util.concurrent.FutureTask;
 import java.util.concurrent.ScheduledExecutorService;
 import java.util.concurrent.TimeUnit;
 import java.util.function.Supplier;
+import java.util.function.UnaryOperator;
 import zsched.Budget;
 import zsched.Retry;
 import zsched.Schedule;
@@ -46,14 +50,86 @@ public final class OnlyInJava {
         }
     }
 
-    /** An input that can't be had hides no error. */
-    private static void input() throws Exception {
-        int[] attempts = {0};
+    /** What an attempt, or a future's completion, throws. */
+    private static Exception thrown(Callable<?> attempt) {
         try {
-            Retry.of("recurs(9)").inputOf(error -> 1 / (++attempts[0] - 2)).call(OnlyInJava::fail);
+            throw new AssertionError(attempt.call() + " in place of an error");
+        } catch (ExecutionException ended) {
+            return (Exception) ended.getCause();
         } catch (Exception error) {
-            same(List.of(error.getMessage(), error.getSuppressed()[0].getMessage(), attempts[0]), List.of("busy", "/ by zero", 2));
+            return error;
         }
+    }
+
+    private static long hook() {
+        throw new IllegalStateException("hook");
+    }
+
+    /** A function or listener that throws hides no error. */
+    private static void hooks() {
+        ScheduledExecutorService scheduler = Executors.newScheduledThreadPool(1);
+        List<UnaryOperator<Retry>> hooks = List.of(
+            retry -> retry.inputOf(error -> hook()), retry -> retry.on(error -> hook() == 0), retry -> retry.onFailure(failure -> hook()),
+            retry -> retry.retryAfter(error -> Duration.ofNanos(hook())), retry -> retry.onFailure(failure -> same(failure, "hook")));
+        for (UnaryOperator<Retry> hook : hooks) {
+            Retry retry = hook.apply(Retry.of("recurs(9)"));
+            for (Exception error : List.of(thrown(() -> retry.call(OnlyInJava::fail)),
+                    thrown(() -> retry.callAsync(() -> CompletableFuture.failedFuture(new Exception("busy")), scheduler).get(60, TimeUnit.SECONDS)))) {
+                same(List.of(error.getMessage(), error.getSuppressed()[0].getMessage().endsWith("hook"), error.getSuppressed().length),
+                    List.of("busy", true, 1));
+            }
+        }
+        scheduler.shutdown();
+    }
+
+    /** A future is no value of `call`, and each future of `callAsync` completes. */
+    private static void futures() throws Exception {
+        for (Object future : List.of(CompletableFuture.completedFuture(1), CompletableFuture.completedStage(1), new FutureTask<>(() -> 1))) {
+            same(thrown(() -> Retry.of("recurs(9)").call(() -> future)).toString(),
+                "java.lang.IllegalArgumentException: zsched: the attempt returned a future, which may still fail: use callAsync");
+        }
+        ScheduledExecutorService scheduler = Executors.newScheduledThreadPool(1);
+        for (int good : new int[] {0, 1}) {
+            int[] attempts = {0};
+            same(thrown(() -> Retry.of("forever").callAsync(() -> attempts[0]++ < good ? CompletableFuture.failedFuture(BUSY) : null, scheduler)
+                .get(60, TimeUnit.SECONDS)).getMessage(), "zsched: the attempt returned null in place of a CompletionStage");
+            same(attempts[0], good + 1);
+        }
+        Supplier<CompletableFuture<String>> bad = () -> CompletableFuture.completedFuture("bad");
+        List<Object> told = new ArrayList<>();
+        same(thrown(() -> Retry.of("forever").onSuccess(attempts -> hook()).callAsync(bad, scheduler).get(60, TimeUnit.SECONDS)).getMessage(), "hook");
+        same(Retry.of("recurs(1)").retryOnResult("bad"::equals).onFailure(told::add).callAsync(bad, scheduler).get(60, TimeUnit.SECONDS), "bad");
+        same(told.size(), 2);
+        same(thrown(() -> Retry.of("recurs(1)").callAsync(() -> { throw new IllegalStateException("late"); }, scheduler)
+            .get(60, TimeUnit.SECONDS)).getMessage(), "late");
+        scheduler.shutdown();
+        same(thrown(() -> Retry.of("forever").callAsync(() -> CompletableFuture.failedFuture(BUSY), scheduler).get(60, TimeUnit.SECONDS))
+            .getSuppressed()[0], BUSY);
+    }
+
+    /** Results that are retried, each listener, and a clock that only sleeps and attempts advance. */
+    private static void results() throws Exception {
+        long[] now = {7};
+        List<Object> told = new ArrayList<>();
+        Retry retry = Retry.of("(exponential(10) && recurs(3)).whileInput(>= 500)").retryOnResult(result -> (int) result >= 400)
+            .inputOf(error -> error instanceof Retry.BadResult bad ? (int) bad.result() : 501).on(error -> error == BUSY)
+            .onFailure(failure -> told.add(failure.number() + " " + failure.delay())).onFailure(failure -> told.add(failure.error() == BUSY))
+            .onSuccess(attempts -> told.add("ok " + attempts)).onSuccess(told::add)
+            .clock(() -> now[0], time -> now[0] += time.toNanos());
+        for (List<Integer> wanted : List.of(List.of(503, 0, 200), List.of(503, 429), List.of(503, 503, 503, 503))) {
+            Iterator<Integer> results = wanted.iterator();
+            same(retry.call(() -> {
+                now[0] += 5_000_000;
+                int result = results.next();
+                if (result == 0) {
+                    throw BUSY;
+                }
+                return result;
+            }), wanted.get(wanted.size() - 1));
+        }
+        same(told, List.of("1 PT0.01S", false, "2 PT0.02S", true, "ok 3", 3L, "1 PT0.01S", false, "2 null", false,
+            "1 PT0.01S", false, "2 PT0.02S", false, "3 PT0.04S", false, "4 null", false));
+        same(now[0], 7 + 9 * 5_000_000L + 110 * 1_000_000L);
     }
 
     /** Attempts that a scheduler starts: their cause is judged, and none follows a cancelled future. */
@@ -96,7 +172,9 @@ public final class OnlyInJava {
 
     public static void main(String[] words) throws Exception {
         interrupt();
-        input();
+        hooks();
+        futures();
+        results();
         async();
         numbers();
     }

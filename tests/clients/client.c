@@ -9,10 +9,12 @@
  *                                 retries an effect that fails at once with CODE, the first TIMES times; JITTER in percent and
  *                                 each wait of LEAST ms at least, but not if CODE is STOP; all requests whose BUDGET is 1
  *                                 share one of 10 tokens and the ratio 0.5 (these not in C)
+ *   later, loop, later_loop       as retry, but asynchronously (Python, Java, Rust), by a loop, by both (Python)
  *   many TEXT COUNT               steps a program COUNT times, each time when it may; prints a line after each tenth
  *   bounds TEXT STEPS [LEAST MOST]
  *                                 zs_bounds: all nine of struct zs_bounds; in C between the number and the place
  *   answer, run                   as list and program, but only the last step's result is printed (C alone)
+ *   forged TEXT COUNT             steps COUNT programs with wrong words, and prints how many steps had a result (C alone)
  *   version TEXT                  the version of the library
  *
  * The line of steps has a word NUMBER,NEXT,VISITS,OUTPUT for each; a fault ends it: NUMBER,AT,WORDS. The line of a retry has
@@ -184,6 +186,49 @@ static void test_odd_states(const schedule *it)
     }
 }
 
+/* Returns the next of some pseudo-random numbers. */
+static uint64_t draw(uint64_t *seed)
+{
+    *seed = *seed * 6364136223846793005 + 1442695040888963407;
+    return *seed >> 32;
+}
+
+/* Changes 1 to 6 words of a program, each to a tag or size, by 1 or to any number. The check word is right then. */
+static void forge(uint64_t *program, uint64_t size, uint64_t *seed)
+{
+    for (uint64_t changes = 1 + draw(seed) % 6; changes; changes--) {
+        uint64_t *word = &program[2 + draw(seed) % (size - 2)], kind = draw(seed) % 4;
+        *word = kind < 2 ? draw(seed) % 20 : kind == 2 ? *word + draw(seed) % 3 - 1 : draw(seed) << draw(seed) % 64;
+    }
+    program[1] = 0xCBF29CE484222325;
+    for (uint64_t i = 2; i < size && i < program[2] + 4; i++)
+        program[1] = program[1] * 0x9E3779B97F4A7C15 + program[i];
+}
+
+/* Steps programs that are forged, each 8 times. Returns how many steps had a result. Others weren't begun. */
+static uint64_t step_forged(const schedule *it, uint64_t count)
+{
+    uint64_t seed = it->program[1], found = 0, size = it->size;
+    for (; count; count--) {
+        OWN uint64_t *program = (uint64_t *)block(it->program, LENGTH(program, size));
+        forge(program, size, &seed);
+        uint64_t state_size = program[3] < 2 * size ? program[3] + 2 : it->state_size, moment = 0;
+        OWN uint64_t *state = (uint64_t *)block(NULL, LENGTH(state, state_size + 2));
+        uint32_t number = zs_program_begin(program, size, state, state_size);
+        hold(number == 0 || number == ZS_NO_PROGRAM || number == ZS_NO_ROOM, it->of, "a program is begun or denied");
+        for (int i = 0; i < 8 && number <= ZS_DONE; i++, found++) {
+            OWN uint8_t *out = (uint8_t *)block(NULL, 9);
+            OWN zs_reply *reply = (zs_reply *)block(NULL, sizeof *reply);
+            moment += draw(&seed) % 1000;
+            number = zs_program_step(program, size, state, state_size + i % 3, moment, draw(&seed), reply, out, 9);
+            hold(number <= ZS_DONE && reply->visits <= 1000 && state[0] == program[1] && state[1] == moment, it->of,
+                 "a step has a result");
+        }
+        hold(is_untouched(state + state_size, LENGTH(state, 2)), it->of, "the words after a state are unchanged");
+    }
+    return found;
+}
+
 /* Writes the program of a schedule and its state. Returns the number of the last call. */
 static uint32_t compile(schedule *it, uint64_t *at)
 {
@@ -323,6 +368,14 @@ static void step_many(const request *it)
     }
 }
 
+static void say_forged(const request *it, FILE *said)
+{
+    OWN_WORDS schedule made = {it, NULL, NULL, 0, 0};
+    uint64_t at;
+    hold(compile(&made, &at) == 0, it, "the text has a program");
+    fprintf(said, " %lu", step_forged(&made, it->numbers[0]));
+}
+
 static int is(const request *it, const char *command) { return strcmp(it->command, command) == 0; }
 
 /* Runs a request, and returns its line. */
@@ -337,6 +390,8 @@ static char *served(const request *it)
         say_bounds(it, said);
     else if (is(it, "retry"))
         say_retry(it, said);
+    else if (is(it, "forged"))
+        say_forged(it, said);
     else if (is(it, "answer") || is(it, "run"))
         say_last(it, said);
     else

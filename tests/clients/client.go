@@ -12,7 +12,7 @@ import (
 	"strings"
 	"time"
 
-	"example.org/zsched"
+	zsched "github.com/zsched/zsched/bindings/go"
 )
 
 var budgets = []*zsched.Budget{nil, zsched.NewBudget(10, 0.5)}

@@ -1,4 +1,7 @@
 """The client of the library in Python. client.c documents the requests and the lines."""
+import asyncio
+import functools
+import inspect
 import sys
 import time
 
@@ -17,21 +20,36 @@ def steps(command, text, numbers):
         yield f"{int(result.next is None)},{result.next or 0},{result.visits},{result.output}"
 
 
-def retry(text, code, times, jitter=0, least=0, stop=None, budget=0):
+def retry(form, text, code, times, jitter=0, least=0, stop=None, budget=0):
     begun, said, numbers = time.monotonic_ns(), [], iter(range(times))
     def say(_, number, wait):
         said.append(f"{number}:{round(1000 * wait)}")
     hook = {} if stop is None else {"before_sleep": say}
 
-    @zsched.retrying(text, on=OSError, input_of=lambda error: error.errno, jitter=jitter / 100,
-                     retry_after=lambda _: least / 1000, budget=BUDGET if budget else None, **hook)
-    def tried():
+    by = zsched.retrying(text, on=OSError, input_of=lambda error: error.errno, jitter=jitter / 100,
+                         retry_after=lambda _: least / 1000, budget=BUDGET if budget else None, **hook)
+
+    def effect():
         said.append((time.monotonic_ns() - begun) // 1000)
         if next(numbers, None) is not None:
             raise EOFError(code) if code == stop else OSError(code, "failed")
         return "done"
+
+    async def later():
+        return effect()
+
+    def loop():
+        for attempt in by:
+            with attempt:
+                return effect()
+
+    async def later_loop():
+        async for attempt in by:
+            with attempt:
+                return effect()
+    tried = {"retry": by(effect), "later": by(later), "loop": loop, "later_loop": later_loop}[form]
     try:
-        return [tried(), *said]
+        return [asyncio.run(tried()) if inspect.iscoroutinefunction(tried) else tried(), *said]
     except (OSError, EOFError) as error:
         return [error.args[0], *said]
 
@@ -52,7 +70,8 @@ def many(text, count):
     return []
 
 
-CALLS = {"retry": retry, "bounds": bounds, "many": many, "version": lambda _: [zsched.calls.library().zs_version()]}
+CALLS = {form: functools.partial(retry, form) for form in ["retry", "later", "loop", "later_loop"]}
+CALLS |= {"bounds": bounds, "many": many, "version": lambda _: [zsched.calls.library().zs_version()]}
 for line in sys.stdin:
     command, digits, *words = line.split()
     text, numbers, said = bytes.fromhex(digits[1:]).decode(), list(map(int, words)), []

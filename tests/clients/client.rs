@@ -1,5 +1,9 @@
 //! The client of the library in Rust. client.c documents the requests and the lines.
+use std::future::{self, Future};
+use std::pin::pin;
 use std::sync::Mutex;
+use std::task::{Context, Poll, Waker};
+use std::thread::sleep;
 use std::time::{Duration, Instant};
 use zsched::{Answer, Budget, Fault, Retry, Schedule, Stepper};
 
@@ -29,7 +33,15 @@ fn steps(command: &str, text: &str, numbers: &[u64], said: &mut Vec<String>) -> 
     Ok(())
 }
 
-fn retry(text: &str, numbers: &[u64]) -> Vec<String> {
+/// Returns what a future returns that is ready at once.
+fn ready<T>(future: impl Future<Output = T>) -> T {
+    match pin!(future).poll(&mut Context::from_waker(Waker::noop())) {
+        Poll::Ready(value) => value,
+        Poll::Pending => panic!("it isn't ready"),
+    }
+}
+
+fn retry(command: &str, text: &str, numbers: &[u64]) -> Vec<String> {
     let (code, times, start, said, mut attempts) = (numbers[0], numbers[1], Instant::now(), Mutex::new(Vec::new()), 0);
     let say = |word: String| said.lock().expect("one thread").push(word);
     let mut retry = Retry::new(text).input_of(|code| *code);
@@ -39,11 +51,15 @@ fn retry(text: &str, numbers: &[u64]) -> Vec<String> {
         retry = retry.retry_after(move |_| Some(Duration::from_millis(least)));
         retry = retry.notify(|_, number, wait| say(format!("{number}:{}", wait.as_millis())));
     }
-    let ended = retry.call(|| {
+    let mut attempt = || {
         say(start.elapsed().as_micros().to_string());
         attempts += 1;
         if attempts <= times { Err(code) } else { Ok("done".to_owned()) }
-    });
+    };
+    let ended = match command {
+        "later" => ready(retry.call_async(|| future::ready(attempt()), |wait| future::ready(sleep(wait)))),
+        _ => retry.call(attempt),
+    };
     let mut words = vec![ended.unwrap_or_else(|failed| failed.to_string())];
     words.append(&mut said.lock().expect("one thread"));
     words
@@ -87,7 +103,7 @@ fn main() {
         let ended = match words[0] {
             "version" => Ok(said.push(zsched::version().to_string())),
             "moved" => moved(&text),
-            "retry" => Ok(said = retry(&text, &numbers)),
+            "retry" | "later" => Ok(said = retry(words[0], &text, &numbers)),
             "bounds" => bounds(&text, &numbers, &mut said),
             "many" => many(&text, numbers[0]),
             command => steps(command, &text, &numbers, &mut said),

@@ -8,7 +8,7 @@ import (
 	"testing"
 	"time"
 
-	"example.org/zsched"
+	zsched "github.com/zsched/zsched/bindings/go"
 )
 
 const noAttempt = "zsched: the attempt is nil"

@@ -2,7 +2,7 @@
 // Tests what only the binding for Node has: `node --test`.
 const assert = require('node:assert');
 const { test } = require('node:test');
-const { Schedule, retry } = require('zsched');
+const { Budget, Schedule, retry } = require('zsched');
 
 function failed() {
   throw new Error('failed');
@@ -58,6 +58,17 @@ test('an input that cannot be had hides no error', async () => {
     await assert.rejects(retry(text, failed, { inputOf }), (error) => error.message === 'failed' && error.notTriedAgain instanceof TypeError);
     assert.strictEqual(attempts, 2);
   }
+});
+
+test('a generator is an error that names its function, and no value', async () => {
+  const budget = new Budget(9, 1);
+  budget.take();
+  const tried = [async function* pages() { yield 1; }, function* lines() { yield 1; }, async () => (function* () { yield 1; })()];
+  for (const [place, attempt] of tried.entries()) {
+    const message = new RegExp(`^zsched: ${['pages', 'lines', 'the attempt'][place]} returns a generator`);
+    await assert.rejects(retry('recurs(3)', attempt, { budget }), { name: 'TypeError', message });
+  }
+  assert.strictEqual(budget.tokens, 8);
 });
 
 test('a list of steps has a moment and an input for each', () => {

@@ -11,7 +11,7 @@ import (
 	"os"
 	"time"
 
-	"example.org/zsched"
+	zsched "github.com/zsched/zsched/bindings/go"
 )
 
 const (

@@ -5,11 +5,14 @@ import java.util.concurrent.Callable;
 import java.util.concurrent.CompletableFuture;
 import java.util.concurrent.CompletionException;
 import java.util.concurrent.CompletionStage;
+import java.util.concurrent.Future;
 import java.util.concurrent.ScheduledExecutorService;
 import java.util.concurrent.ThreadLocalRandom;
 import java.util.concurrent.TimeUnit;
 import java.util.function.Consumer;
 import java.util.function.Function;
+import java.util.function.LongConsumer;
+import java.util.function.LongSupplier;
 import java.util.function.Predicate;
 import java.util.function.Supplier;
 import java.util.function.ToLongFunction;
@@ -24,6 +27,9 @@ import java.util.function.ToLongFunction;
  * planned moment; with it the bounds hold of the moments that the schedule is stepped at, and waits
  * are never longer. Time and memory don't grow with the number of attempts, except for a schedule
  * with collectAll, whose output grows.
+ *
+ * <p>What a function or listener of {@link #inputOf}, {@link #on}, {@link #onFailure} or
+ * {@link #retryAfter} throws ends the retry: the attempt's error is thrown, which suppresses it.
  */
 public final class Retry {
     /**
@@ -32,13 +38,39 @@ public final class Retry {
      */
     public record Failure(Exception error, long number, Duration delay) { }
 
+    /** The error of an attempt whose result is retried ({@link #retryOnResult}). It has no stack trace. */
+    public static final class BadResult extends Exception {
+        private static final long serialVersionUID = 1;
+        private final transient Object result;
+
+        private BadResult(Object result) {
+            super("a result that is retried", null, true, false);
+            this.result = result;
+        }
+
+        /** Returns the result. */
+        public Object result() {
+            return result;
+        }
+    }
+
+    /** Sleeps for a time, or for less. */
+    @FunctionalInterface
+    public interface Sleeper {
+        void sleep(Duration time) throws InterruptedException;
+    }
+
     private static final long LONGEST = Long.MAX_VALUE / 1_000_000;
 
     private final String text;
     private ToLongFunction<Exception> inputOf = error -> 0;
     private Predicate<Exception> isWanted = error -> true;
-    private Consumer<Failure> listener = failure -> { };
+    private Predicate<Object> isBad = result -> false;
+    private Consumer<Failure> onFailure = failure -> { };
+    private LongConsumer onSuccess = attempts -> { };
     private Function<Exception, Duration> retryAfter = error -> null;
+    private LongSupplier clock = System::nanoTime;
+    private Sleeper sleeper = Retry::sleep;
     private double jitter;
     private Budget budget;
 
@@ -51,10 +83,7 @@ public final class Retry {
         return new Retry(new Schedule(text).text());
     }
 
-    /**
-     * Sets what the schedule's input of an error is: 0 without it. If the function throws a
-     * RuntimeException, the error is thrown, and what the function threw is suppressed by it.
-     */
+    /** Sets what the schedule's input of an error is: 0 without it. */
     public Retry inputOf(ToLongFunction<Exception> inputOf) {
         this.inputOf = inputOf;
         return this;
@@ -69,9 +98,37 @@ public final class Retry {
         return this;
     }
 
-    /** Sets what is called after each failed attempt, before the wait. What it throws ends the retry. */
+    /**
+     * Sets which results are retried: none without it. Functions and listeners get a
+     * {@link BadResult} in place of an error. When the schedule is done, the last result is returned.
+     */
+    public Retry retryOnResult(Predicate<Object> isBad) {
+        this.isBad = isBad;
+        return this;
+    }
+
+    /** Adds a listener, which is called after each failed attempt, before the wait. */
     public Retry onFailure(Consumer<Failure> listener) {
-        this.listener = listener;
+        this.onFailure = onFailure.andThen(listener);
+        return this;
+    }
+
+    /**
+     * Adds a listener, which is called with the number of attempts when one doesn't fail. What it
+     * throws is thrown in place of the result.
+     */
+    public Retry onSuccess(LongConsumer listener) {
+        this.onSuccess = onSuccess.andThen(listener);
+        return this;
+    }
+
+    /**
+     * Sets the clock, in nanoseconds, and what {@link #call} sleeps with, for tests. The scheduler of
+     * {@link #callAsync} sleeps itself.
+     */
+    public Retry clock(LongSupplier nanos, Sleeper sleeper) {
+        this.clock = nanos;
+        this.sleeper = sleeper;
         return this;
     }
 
@@ -99,23 +156,34 @@ public final class Retry {
     /**
      * Calls an attempt until there is a value or the schedule is done, and sleeps between two. At the
      * end it throws the last error. If it is interrupted in a sleep, the InterruptedException
-     * suppresses the last error.
+     * suppresses the last error. Throws IllegalArgumentException if the value is a future.
      */
     public <T> T call(Callable<T> attempt) throws Exception {
         Run run = new Run();
         while (true) {
+            T value = null;
+            Exception error = null;
             try {
-                return good(attempt.call());
-            } catch (Exception error) {
-                run.sleep(error, run.delayAfter(error));
+                value = attempt.call();
+            } catch (Exception thrown) {
+                error = thrown;
             }
+            if (value instanceof Future || value instanceof CompletionStage) {
+                throw new IllegalArgumentException("zsched: the attempt returned a future, which may still fail: use callAsync");
+            }
+            long nanos = run.delayAfter(value, error);
+            if (nanos < 0) {
+                return value;
+            }
+            run.sleep(nanos);
         }
     }
 
     /**
      * Starts an attempt until one completes with a value or the schedule is done, and completes the
      * future with the value or the last error. A {@link CompletionException} counts as its cause. It
-     * blocks no thread. If the future is cancelled, or completed otherwise, no attempt follows.
+     * blocks no thread. If the future is cancelled, or completed otherwise, no attempt follows. If the
+     * supplier returns null, the future completes with a NullPointerException.
      */
     public <T> CompletableFuture<T> callAsync(Supplier<? extends CompletionStage<T>> attempt, ScheduledExecutorService scheduler) {
         CompletableFuture<T> ended = new CompletableFuture<>();
@@ -134,20 +202,24 @@ public final class Retry {
         } catch (Throwable thrown) {
             started = CompletableFuture.failedFuture(thrown);
         }
+        if (started == null) {
+            ended.completeExceptionally(new NullPointerException("zsched: the attempt returned null in place of a CompletionStage"));
+            return;
+        }
         started.whenComplete((value, thrown) -> {
-            if (thrown == null) {
-                ended.complete(good(value));
-                return;
-            }
             Throwable error = thrown instanceof CompletionException && thrown.getCause() != null ? thrown.getCause() : thrown;
             try {
-                if (!(error instanceof Exception exception)) {
+                if (error instanceof Error) {
                     throw error;
                 }
-                long nanos = run.delayAfter(exception);
-                scheduler.schedule(() -> start(run, attempt, scheduler, ended), nanos, TimeUnit.NANOSECONDS);
+                long nanos = run.delayAfter(value, (Exception) error);
+                if (nanos < 0) {
+                    ended.complete(value);
+                } else {
+                    scheduler.schedule(() -> start(run, attempt, scheduler, ended), nanos, TimeUnit.NANOSECONDS);
+                }
             } catch (Throwable last) {
-                if (last != error) {
+                if (error != null && last != error) {
                     last.addSuppressed(error);
                 }
                 ended.completeExceptionally(last);
@@ -155,50 +227,37 @@ public final class Retry {
         });
     }
 
-    /** Returns the value of an attempt that didn't fail. */
-    private <T> T good(T value) {
-        if (budget != null) {
-            budget.add();
-        }
-        return value;
-    }
-
-    /** One call: its schedule, its start, the number of attempts, and the planned moment of the last one. */
+    /** One call: its schedule, its start, the last error, the number of attempts, and the planned moment of the last one. */
     private final class Run {
         private final Schedule.Follower schedule = Schedule.begun(text);
-        private final long start = System.nanoTime();
-        private long now = start;
+        private final long start = clock.getAsLong();
+        private Exception error;
+        private long now;
         private long number;
         private long planned;
 
-        /** Steps the schedule. Returns the nanoseconds from now to the next attempt, or throws the error. */
-        long delayAfter(Exception error) throws Exception {
+        /**
+         * Ends an attempt that returned a value, or threw. Returns the nanoseconds from now to the
+         * next attempt, or -1 if the value is returned, or throws the error.
+         */
+        long delayAfter(Object value, Exception thrown) throws Exception {
             number++;
-            now = System.nanoTime();
-            long passed = Math.max((now - start) / 1_000_000, planned);
-            Schedule.Answer result = null;
-            if (!(error instanceof InterruptedException) && isWanted.test(error) && (budget == null || budget.take())) {
-                result = schedule.after(Math.max(passed, planned + 1), input(error));
+            if (thrown == null && !isBad.test(value)) {
+                if (budget != null) {
+                    budget.add();
+                }
+                onSuccess.accept(number);
+                return -1;
             }
-            if (result == null || result.done()) {
-                listener.accept(new Failure(error, number, null));
-                throw error;
-            }
-            long nanos = nanos(result.next()) - (now - start);
-            if (jitter > 0) {
-                nanos = (long) (nanos(result.next() - passed) * (1 - jitter * ThreadLocalRandom.current().nextDouble()));
-            }
-            Duration least = retryAfter.apply(error);
-            nanos = Math.max(nanos, least == null ? 0 : least.toNanos());
-            planned = result.next();
-            listener.accept(new Failure(error, number, Duration.ofNanos(nanos)));
-            return nanos;
-        }
-
-        private long input(Exception error) throws Exception {
+            error = thrown == null ? new BadResult(value) : thrown;
             try {
-                return inputOf.applyAsLong(error);
-            } catch (RuntimeException fault) {
+                long nanos = plan();
+                onFailure.accept(new Failure(error, number, nanos < 0 ? null : Duration.ofNanos(nanos)));
+                if (nanos < 0 && thrown != null) {
+                    throw thrown;
+                }
+                return nanos;
+            } catch (RuntimeException | Error fault) {
                 if (fault != error) {
                     error.addSuppressed(fault);
                 }
@@ -206,17 +265,44 @@ public final class Retry {
             }
         }
 
-        /** Sleeps these nanoseconds from the last step. A sleep may end early, so the clock decides. */
-        void sleep(Exception error, long nanos) throws InterruptedException {
+        /** Steps the schedule. Returns the nanoseconds from now to the next attempt, or -1 if there is none. */
+        private long plan() {
+            now = clock.getAsLong();
+            long passed = Math.max((now - start) / 1_000_000, planned);
+            boolean isRetried = error instanceof BadResult || !(error instanceof InterruptedException) && isWanted.test(error);
+            if (!isRetried || budget != null && !budget.take()) {
+                return -1;
+            }
+            Schedule.Answer result = schedule.after(Math.max(passed, planned + 1), inputOf.applyAsLong(error));
+            if (result.done()) {
+                return -1;
+            }
+            long nanos = nanos(result.next()) - (now - start);
+            if (jitter > 0) {
+                nanos = (long) (nanos(result.next() - passed) * (1 - jitter * ThreadLocalRandom.current().nextDouble()));
+            }
+            Duration least = retryAfter.apply(error);
+            planned = result.next();
+            return Math.max(Math.max(nanos, 0), least == null ? 0 : least.toNanos());
+        }
+
+        /** Sleeps these nanoseconds from the last step. */
+        void sleep(long nanos) throws InterruptedException {
             try {
-                for (long rest = 1; rest > 0; ) {
-                    rest = nanos - (System.nanoTime() - now);
-                    Thread.sleep(rest > 0 ? rest / 1_000_000 + 1 : 0);
-                }
+                sleeper.sleep(Duration.ofNanos(Math.max(0, nanos - (clock.getAsLong() - now))));
             } catch (InterruptedException interrupted) {
                 interrupted.addSuppressed(error);
                 throw interrupted;
             }
+        }
+    }
+
+    /** Sleeps for a time. A sleep may end early, so the clock decides. */
+    private static void sleep(Duration time) throws InterruptedException {
+        long begun = System.nanoTime();
+        for (long rest = 1; rest > 0; ) {
+            rest = time.toNanos() - (System.nanoTime() - begun);
+            Thread.sleep(rest > 0 ? rest / 1_000_000 + 1 : 0);
         }
     }
 

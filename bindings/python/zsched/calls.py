@@ -29,7 +29,7 @@ def _place() -> str:
     """Returns the library's path, or its name if the system must find it."""
     here = pathlib.Path(__file__).resolve()
     places = [here.parent / "libzsched.so", here.parents[3] / "crates" / "zsched_c" / "out" / "libzsched.so"]
-    return os.environ.get("ZSCHED_LIBRARY") or next((str(it) for it in places if it.exists()), SONAME)
+    return os.environ.get("ZSCHED_LIBRARY", "") or next((str(it) for it in places if it.exists()), SONAME)
 
 
 @functools.cache

@@ -283,7 +283,7 @@ class Retrying:
         by = self.with_()
         tried = (_asynchronous if _is_asynchronous(function) else _synchronous)(by, function)
         tried.statistics, tried.with_ = by.statistics, lambda **changes: by.with_(**changes)(function)
-        return tried
+        return typing.cast(T, tried)
 
 
 def _is_asynchronous(function: typing.Any) -> bool:
@@ -300,7 +300,7 @@ def _no_generator(function: typing.Any) -> TypeError:
 def _synchronous(by: Retrying, function: typing.Any) -> typing.Any:
     """Returns a function with retries. If it returns an awaitable, so does its first attempt, and each is awaited."""
     @functools.wraps(function)
-    def tried(*arguments, **named):
+    def tried(*arguments: typing.Any, **named: typing.Any) -> typing.Any:
         run = Run(by)
         while True:
             run.attempts += 1
@@ -323,7 +323,7 @@ def _synchronous(by: Retrying, function: typing.Any) -> typing.Any:
 def _asynchronous(by: Retrying, function: typing.Any) -> typing.Any:
     """Returns a coroutine function with retries."""
     @functools.wraps(function)
-    async def tried(*arguments, **named):
+    async def tried(*arguments: typing.Any, **named: typing.Any) -> typing.Any:
         run = Run(by)
         run.attempts = 1
         return await _awaited(run, function, arguments, named, function(*arguments, **named))
