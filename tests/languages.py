@@ -56,8 +56,7 @@ class Client(NamedTuple):
         """The lines that it prints of these requests, with more words after and before its own."""
         words = [str(it) for it in [*before, *self.words, *more]]
         ended = subprocess.run(words, input="".join(f"{it}\n" for it in requests), capture_output=True, text=True,
-                               check=False,
-                               env=CLEAN | self.variables)
+                               check=False, timeout=900, env=CLEAN | self.variables)
         assert ended.returncode == 0, f"{words}: {ended.returncode}: {ended.stdout[-500:]}{ended.stderr[-3000:]}"
         return ended.stdout.splitlines()
 
@@ -107,7 +106,7 @@ def go_variables(place):
 def go(room, place):
     """The client in Go, over the packaged module as a proxy of modules has it, with the library in it."""
     need("go")
-    module, name = "example.org/zsched", f"v{(TOP / 'VERSION').read_text().strip()}"
+    module, name = "github.com/zsched/zsched/bindings/go", f"v{(TOP / 'VERSION').read_text().strip()}"
     proxy = room / "proxy" / module / "@v"
     proxy.mkdir(parents=True)
     shutil.copy(BINDINGS / "go" / "go.mod", proxy / f"{name}.mod")

@@ -20,7 +20,6 @@ sys.path.insert(0, str(BENCHES))
 import bench
 import growth
 import plans
-import population as populations
 
 CAT = shutil.which("cat")
 POPULATION = [sys.executable, BENCHES / "population.py"]
@@ -83,24 +82,26 @@ def test_growth_is_drawn(tmp_path):
     assert growth.exponent([(size, 3 * size ** 2) for size in growth.up_to(1000)]) == pytest.approx(2)
 
 
-def test_a_population_is_split_run_and_joined(population, tmp_path):
-    status, rows, errors = run_tool([*POPULATION, "--jobs", "250", "--part", "100", "--folder", tmp_path])
+def test_a_population_is_run_by_ranges_and_joined(population, tmp_path):
+    words = ["--jobs", "250", "--range", "100", "--folder", tmp_path, "--population", population]
+    status, rows, errors = run_tool([*POPULATION, *words])
     assert (status, errors, os.listdir(tmp_path)) == (0, "", [])
     number = r"[\d,]+\.\d"
     found = re.findall(rf"^\| ([\w ]+) \|( {number} \|){{3}} [\d,]+ \|( {number} \|){{2}}$", rows, re.MULTILINE)
-    assert [row[0] for row in found] == ["cut", "run", "digests", "join by the manifest", "join by lines", "one program",
-                                         *["the pipe"] * populations.has_parallel(), "lines", "summary", "load"]
+    assert [row[0] for row in found] == ["one program", "ranges", "check", "lines", "summary", "load"]
 
 
 # What is wrong, the commands of the program that is run, and a pattern of the error.
 @pytest.mark.parametrize("name, shell, wanted", rows("wrong_populations.jsonl"))
-def test_a_population_has_the_wrong_report(name, shell, wanted, tmp_path):
-    status, _, errors = run_tool([*POPULATION, "--jobs", "1", "--zsched", executable(tmp_path / "script", shell)])
+def test_a_population_has_the_wrong_report(name, shell, wanted, population, tmp_path):
+    wrong = executable(tmp_path / "script", shell)
+    variables = {"ZSCHED_POPULATION": wrong, "RIGHT": str(population)}
+    status, _, errors = run_tool([*POPULATION, "--jobs", "1"], **variables)
     assert status == 1
     assert re.search(wanted, errors)
 
 
-@pytest.mark.parametrize("words", [["--jobs", "0"], ["--part", "x"], ["plan.json"], ["--zsched", "/nowhere"]])
+@pytest.mark.parametrize("words", [["--jobs", "0"], ["--range", "x"], ["plan.json"], ["--population", "/nowhere"]])
 def test_wrong_arguments_of_a_population(words):
     status, output, errors = run_tool([*POPULATION, *words])
     assert (status, output) == (2, "")

@@ -24,6 +24,8 @@ CRATES = pathlib.Path("/usr/share/cargo/registry")
 FAULTS = {text.encode(): fault for text, fault in rows("faulty_texts.jsonl")}
 # A policy, the code of the failures and how many there are; how it ends, and the milliseconds between attempts.
 RETRIES = rows("retries.jsonl")
+# The forms of a retry, and the languages that have each.
+FORMS = {"retry": LANGUAGES, "later": ["Python", "Java", "Rust"], "loop": ["Python"], "later_loop": ["Python"]}
 # Policies of which each attempt fails at once.
 PROMISED = rows("promised.jsonl")
 # A policy, the code of all failures; a jitter in percent, a least wait in milliseconds, the code that isn't retried,
@@ -105,10 +107,11 @@ def least_moments(text):
     return begins[:-1]
 
 
-@pytest.mark.parametrize("name", named())
-def test_what_fails_at_once_is_retried_within_the_bounds_of_its_policy(client, name):
+@pytest.mark.parametrize("name, command", [pytest.param(*it.values, command, marks=it.marks)
+                                           for command, names in FORMS.items() for it in named(*names)])
+def test_what_fails_at_once_is_retried_within_the_bounds_of_its_policy(client, name, command):
     bounds = client("C").says(request("bounds", text, 1000) for text in PROMISED)
-    lines = client(name).says(request("retry", text, 7, 10 ** 6) for text in PROMISED)
+    lines = client(name).says(request(command, text, 7, 10 ** 6) for text in PROMISED)
     for text, line, promised in zip(PROMISED, lines, bounds, strict=True):
         _, _, least, _, most, longest, _, total, *_ = map(int, promised.split())
         ended, *moments = line.split()
@@ -204,7 +207,7 @@ def test_the_example_in_node_waits_for_its_server_and_its_tests_pass(library, tm
     addon = {"ZSCHED_NODE": tmp_path / "node_modules/zsched/zsched.node"}
     assert ran(["node", BINDINGS / "node" / "example.js"], tmp_path, **addon) == READY
     shutil.copy(CLIENTS / "only_in_node.test.js", tmp_path)
-    assert "# pass 6\n" in ran(["node", "--test", "only_in_node.test.js"], tmp_path)
+    assert "# pass 7\n" in ran(["node", "--test", "only_in_node.test.js"], tmp_path)
 
 
 def crate(library, tmp_path):

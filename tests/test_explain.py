@@ -208,6 +208,18 @@ def test_a_plan_with_a_wrong_clock_is_run_as_it_is(clock):
     assert plan_size.with_one_tick(data) == data
 
 
+def test_the_workers_of_each_example_and_of_each_plan_in_the_documents_pay():
+    plans = {path.name: path.read_text() for path in TOP.glob("examples/*.json")}
+    for page in [*TOP.glob("*.md"), *TOP.glob("docs/*.md")]:
+        for at, text in enumerate(re.findall(r"^ *```\w*\n( *\{.*?)^ *```", page.read_text(), re.M | re.S)):
+            # A population's first line is a plan without its jobs, which are the other lines.
+            head, _, jobs = text.strip().partition("}\n{")
+            plans[f"{page.name}, sample {at}"] = f'{head},"jobs":[{{{jobs.replace(chr(10), ",")}]}}' if jobs else text
+    chosen = {name: text for name, text in plans.items() if '"workers"' in text and json.loads(text)["jobs"]}
+    assert {"many_jobs_on_several_workers.json"} < chosen.keys()
+    assert [name for name, text in chosen.items() if plan_size.workers_warning(text.encode())] == []
+
+
 def test_no_plan_of_the_repository_is_large_and_an_invalid_one_has_no_size():
     plans = {path: path.read_bytes() for path in [*TOP.glob("examples/*.json"), *TOP.glob("tests/plans/*.json")]}
     plans |= {name: split(marked)[0] for name, marked, _, _ in MISTAKES}

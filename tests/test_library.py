@@ -12,6 +12,7 @@ from support import TOP, rows, tree
 
 REFUSED = 250
 UNDER_VALGRIND = 40
+FORGED = 200
 VALGRIND = ["valgrind", "--quiet", "--error-exitcode=9", "--leak-check=full", "--show-leak-kinds=all"]
 # Schedules of the greatest depth.
 DEEPEST = rows("deepest.jsonl")
@@ -63,6 +64,14 @@ def test_valgrind_finds_no_error_and_no_lost_memory(client, command):
     asked = histories()[:UNDER_VALGRIND]
     judge(client("C"), asked, command, before=VALGRIND)
     assert len(client("C").says([request("bounds", text, 1000) for text in BOUNDS], before=VALGRIND)) == len(BOUNDS)
+
+
+@pytest.mark.parametrize("name, count, before", [("C", 10, VALGRIND), ("C watched", 100, [])])
+def test_a_forged_program_is_stepped_safely(client, name, count, before):
+    need(*before[:1])
+    texts = [it.text.decode() for it in histories() if it.is_flat and it.weight > 2][:FORGED]
+    stepped = [int(line) for line in client(name).says([request("forged", it, count) for it in texts], before=before)]
+    assert len(stepped) == FORGED and sum(stepped) > FORGED * count
 
 
 def test_bounds_of_policies_are_those_that_were_worked_out_by_hand(client):
@@ -156,6 +165,16 @@ def test_a_zeroed_program_and_one_with_a_byte_changed_are_rejected(library):
               for place in range(len(right)) for bits in range(0, 64, 8)]
     assert {calls.zs_program_begin(*array(words), *state) for words in wrong} == {8} and list(state[0]) == [7] * 9
     assert calls.zs_program_begin(*array(right), *state) == 0
+
+
+def test_a_step_of_a_forged_program_visits_at_most_1000_nodes(library):
+    calls, state, reply = ctypes.CDLL(str(library / "libzsched.so")), array([7] * 4), array([0] * 4)
+    # Each of 30 resets, whose test passes always, steps its part twice.
+    program = array(program_of([17, 0, 5, 0] * 30 + [1], 2))
+    assert calls.zs_program_begin(*program, *state) == 0
+    moment = ctypes.c_uint64(1)
+    assert calls.zs_program_step(*program, *state, moment, moment, reply[0], None, ctypes.c_size_t(0)) == 1
+    assert reply[0][2] == 1000
 
 
 def test_the_header_is_one_of_cpp_too():

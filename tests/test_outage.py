@@ -15,7 +15,7 @@ from hypothesis import strategies as st
 import reference
 from browser import framed
 from reports import jobs_of
-from support import TOP, examples, job, plan, run_here
+from support import TOP, examples, job, plan, run, run_here
 from zsched_tools import drawn, program
 from zsched_tools.drawing import text_width
 from zsched_tools.outage import certificate, command, curve, panels, scenario, search, world
@@ -125,7 +125,7 @@ def decided(found, schedules):
 def test_the_search_finds_what_deciding_one_event_after_another_finds(zsched):
     denied = []
 
-    @settings(max_examples=examples(30))
+    @settings(max_examples=examples(100))
     @given(SCENARIOS)
     def compare(parts):
         found = read(parts)
@@ -133,7 +133,7 @@ def test_the_search_finds_what_deciding_one_event_after_another_finds(zsched):
         walk = search.Search(found, str(zsched), schedules, 50).settle(lambda share, words: None)
         assert [list(kinds) for kinds in walk.found] == decided(found, schedules)
         denied.extend(kinds for kinds in walk.found if kinds and kinds[-1] >= DENIED)
-        _, plans, _, reports, _ = simulated(zsched, parts)
+        _, plans, reports, _ = simulated(zsched, parts)
         assert reports == [reference.answer(plan)[1] for plan in plans]
     compare()
     assert len(denied) > 5
@@ -212,13 +212,14 @@ def test_a_cause_after_a_draw_is_at_its_place_in_the_policy(within, size, marked
     assert policy.text[cause.at:cause.at + cause.size] == marked
 
 
-def test_a_plan_in_parts_is_what_split_makes(zsched, tmp_path):
+def test_a_plan_of_too_many_jobs_is_written_as_lines(zsched, population, tmp_path):
     with mock.patch.object(program, "MOST_JOBS", 2):
         found = simulated(zsched, SMALL)
+    assert len(found[1]) == 2
     command.write_files(tmp_path, "steady", 5000, found)
-    lines = (tmp_path / "steady.jsonl").read_text().splitlines()
-    assert (lines[0], len(lines)) == ('{"horizon":5000}', 4)
-    assert [(tmp_path / "steady.parts" / f"part-00000{number}.json").read_bytes() for number in (1, 2)] == found[1]
+    lines = (tmp_path / "steady.jsonl").read_bytes()
+    assert (lines.splitlines()[0], lines.count(b"\n")) == (b'{"horizon":5000}', 4)
+    assert run(population, lines) == (0, REPORT.encode(), b"")
     assert (tmp_path / "steady.report").read_text() == REPORT
     curve_of_case = (CASES / "three_clients_meet_an_outage" / "stdout").read_text().partition("steady.report\n")[2]
     assert (tmp_path / "steady.csv").read_text() == curve_of_case
@@ -234,10 +235,10 @@ def test_a_plan_that_is_too_long_is_cut_by_its_bytes():
 
 def test_more_bytes_than_a_plan_takes_are_said_before_the_run(capsys):
     with mock.patch.object(program, "MAX_BYTES", 32):
-        command.warn_of_parts("steady", search.schedules_of(read(SMALL), "steady"))
+        command.warn_of_lines("steady", search.schedules_of(read(SMALL), "steady"))
     assert capsys.readouterr().err == (
         "zsched-outage: policy steady: 3 jobs with schedules of 33 bytes are more than one plan of 10,000 jobs and "
-        "32 bytes: it is written as JSON lines and parts\n")
+        "32 bytes: it is written as JSON lines\n")
 
 
 @given(st.lists(st.integers(0, 60), max_size=12), st.integers(1, 20), st.integers(0, 40))

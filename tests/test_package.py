@@ -12,7 +12,7 @@ import subprocess
 import pytest
 
 import languages
-from languages import CLEAN, CLIENTS, JNA, Client, Place, are_kept, need, ran, request
+from languages import BINDINGS, CLEAN, CLIENTS, JNA, Client, Place, are_kept, need, ran, request
 from support import TOP, output_of
 
 VERSION = (TOP / "VERSION").read_text().strip()
@@ -35,6 +35,30 @@ def test_functions_and_soname_are_those_of_the_library(library):
     archive = output_of(["nm", "--extern-only", "--defined-only", library / "libzsched.a"])
     for text, form in [(HEADER, r"^uint\w+ (zs_\w+)\("), (archive, r"^\w+ \w (\w+)$")]:
         assert sorted(re.findall(form, text, re.M)) == [name for name, _ in names]
+
+
+@pytest.mark.parametrize("name, form", [
+    ("python/pyproject.toml", r'^Source = "https://(.*)"'), ("rust/Cargo.toml", r'^repository = "https://(.*)"'),
+    ("java/pom.xml", r"^  <url>https://(.*)</url>"), ("go/go.mod", r"^module (.*)/bindings/go$"),
+    ("node/package.json", r'^  "repository": "github:(.*)"')])
+def test_a_package_names_the_repository_in_which_it_is(name, form):
+    found, = re.findall(form, (BINDINGS / name).read_text(), re.M)
+    assert found.removeprefix("github.com/") == "zsched/zsched"
+
+
+def test_a_program_has_the_types_of_the_package_for_node(tmp_path):
+    need("tsc")
+    declared, program = [shutil.copy(it, tmp_path / it.name) for it in [BINDINGS / "node/zsched.d.ts", CLIENTS / "typed.ts"]]
+    names = {*re.findall(r"^(?:export \w+ |  (?:readonly |get )?)(\w+).*[^,]$", declared.read_text(), re.M)} - {"constructor"}
+    assert len(names) > 40 and names <= set(re.findall(r"\w+", program.read_text()))
+    ran(["tsc", "--noEmit", "--strict", "--target", "es2020", "--lib", "es2020,dom", program], tmp_path)
+
+
+def test_a_program_has_the_types_of_the_package_for_python(tmp_path):
+    need("mypy")
+    names = re.findall(r'"(\w+)"', (BINDINGS / "python/zsched/__init__.py").read_text().split("__all__")[1].split("]")[0])
+    assert len(names) > 10 and set(names) <= set(re.findall(r"\w+", (CLIENTS / "typed.py").read_text()))
+    ran(["mypy", "--strict", "--cache-dir", tmp_path, CLIENTS / "typed.py"], tmp_path, MYPYPATH=BINDINGS / "python")
 
 
 class Root:

@@ -17,7 +17,6 @@ from support import TOP, examples, rows, run
 from zsched_tools import load, progress
 from zsched_tools.command import Refused
 from zsched_tools.report import lines
-from zsched_tools.report.join import write_joined
 from zsched_tools.report.summary import Options, write_summary
 from zsched_tools.words import duration
 
@@ -231,21 +230,3 @@ def test_the_table_has_the_order_of_the_option(sort):
         names = [job.name for job in (sorted(jobs, key=key[sort]) if sort else jobs)]
         table = summed_up(text, sort=sort)[0][0].splitlines()
         assert [line.split()[0] for line in table[1:len(jobs) + 1]] == names
-
-
-def test_a_part_that_changes_after_it_was_read_is_not_copied(tmp_path):
-    (first := tmp_path / "first").write_text(RETRIED)
-    (second := tmp_path / "second").write_text(WAITING)
-    written = []
-    with pytest.raises(OSError):
-        write_joined([first, second], lambda piece: (written.append(piece), os.truncate(second, 0)))
-    assert written == [RETRIED.removesuffix("polls 3\n").encode()]
-
-
-def test_many_parts_take_little_memory(tmp_path):
-    texts = {tmp_path / f"part-{at:03}": wide_report(500, 2).replace("job service", f"job s{at}") for at in range(40)}
-    for path, text in texts.items():
-        path.write_text(text)
-    status, kilobytes, _ = measured(TOOL, "join", *texts, out=tmp_path / "whole")
-    whole = "".join(text.removesuffix("polls 2000\n") for text in texts.values()) + "polls 80000\n"
-    assert (status, (tmp_path / "whole").read_text()) == (0, whole) and kilobytes < 40_000

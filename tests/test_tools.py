@@ -1,17 +1,13 @@
-"""What all commands of tools/ have in common, beside tests/cases/tools/: the program that they run, the Python that
-they need, and work that processes share."""
+"""What all commands of tools/ have in common, beside tests/cases/tools/: the program that they run, and the Python
+that they need."""
 import ast
-import multiprocessing
-import os
 import re
-import signal
 import sys
 
 import pytest
 
 from support import TOP
 from zsched_tools import program, starting
-from zsched_tools.report.processes import in_order
 
 TOOLS = sorted((TOP / "tools").glob("zsched-*"))
 MAIN = TOP / "tools" / "zsched_tools" / "__main__.py"
@@ -53,26 +49,3 @@ def test_a_command_looks_for_an_old_python_before_it_reads_its_own_files(path, m
 def test_that_look_needs_no_new_python():
     for file in [MAIN, MAIN.with_name("starting.py"), MAIN.with_name("__init__.py")]:
         ast.parse(file.read_text(), feature_version=(3, 4))
-
-
-@pytest.mark.parametrize("size", [0, 1, 2, 3, 100])
-def test_results_of_processes_are_in_order(size):
-    assert list(in_order(hex, range(size))) == list(map(hex, range(size)))
-
-
-def test_an_error_is_raised_in_its_place_and_no_process_remains():
-    taken = []
-    with pytest.raises(ZeroDivisionError):
-        taken.extend(in_order(lambda item: 60 // item, [5, 4, 3, 0, 2, 0, 1]))
-    assert taken == [12, 15, 20]
-    assert multiprocessing.active_children() == []
-
-
-def test_a_process_that_is_killed_is_an_error(monkeypatch):
-    monkeypatch.setattr(os, "sched_getaffinity", lambda _: {0, 1})
-    with pytest.raises(ChildProcessError):
-        list(in_order(lambda item: os.kill(os.getpid(), signal.SIGKILL) if item == 7 else item, range(10)))
-
-
-def test_long_results_do_not_block():
-    assert list(map(len, in_order(lambda item: b"x" * item, [10**6] * 9))) == [10**6] * 9
