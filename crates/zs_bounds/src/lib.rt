@@ -14,11 +14,11 @@
 //! ```
 #![tactic(auto)]
 
-mod answers;
 mod bounding;
 mod decisions;
 mod durations;
 mod endless;
+mod joins;
 mod laws;
 mod leaves;
 mod node;

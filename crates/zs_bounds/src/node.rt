@@ -2,14 +2,15 @@
 
 ghost use Rattle.std.specs.Prelude.{◌≡◌, IfOk};
 ghost use Rattle.zs_term.specs.Schedule.{schedule_of, leaf, over, collect_all, reset_when};
+ghost use Rattle.zs_bounds.specs.AnswerRange.{result_hull, no_result, left_range, right_range, test_range};
+ghost use Rattle.zs_bounds.specs.OutRange.{result_range};
 ghost use Rattle.zs_bounds.specs.StateRange.{first_state};
 ghost use Rattle.zs_bounds.specs.Leaf.{bare_leaf};
 ghost use Rattle.zs_bounds.specs.Node.{node_schedule, in_turn, IsMade, IsMadeNode};
 
-use crate::answers::{AnswerRange, left_range, no_result, result_hull, right_range, test_range};
 use crate::decisions::{Decisions, more_items};
-use crate::leaves::{Leaf, leaf_range};
-use crate::ranges::{OutRange, func_range, make_pairs, picked_span};
+use crate::leaves::{AnswerRange, Leaf, leaf_range};
+use crate::ranges::{OutRange, func_range, join, make_pairs, make_sides, picked_span};
 use crate::reads::{Reads, copy_read};
 use crate::span::{Span, any_input};
 use crate::turns::{ResetRule, Turn, Turns};
@@ -103,6 +104,53 @@ fn part(alloc: Global, term: &Term) -> Result<MadePart, AllocError>
 {
     let (node, answer) = node_of(alloc, term)?;
     Ok((Box::new(alloc, node)?, answer))
+}
+
+// No result.
+fn no_result() -> AnswerRange
+    ensures value { result_range result ≡ no_result }
+{
+    (OutRange::Nothing, Decisions::nothing())
+}
+
+// The results of one or the other.
+fn result_hull(first: AnswerRange, second: AnswerRange) -> AnswerRange
+    ensures value { result_range result ≡ result_hull (result_range first) (result_range second) }
+{
+    let (mut x, d) = first;
+    let (y, e) = second;
+    join(&mut x, y);
+    (x, d.hull(e))
+}
+
+// The results of a first part that goes on.
+fn left_range(alloc: Global, answer: AnswerRange) -> Result<AnswerRange, AllocError>
+    ensures value { IfOk result (λ r. result_range r ≡ left_range (result_range answer)) }
+{
+    let (out, decision) = answer;
+    if !decision.may_go_on() {
+        return Ok(no_result());
+    }
+    Ok((
+        make_sides(alloc, out, OutRange::Nothing)?,
+        Decisions::always(decision.waits),
+    ))
+}
+
+// The results of a second part.
+fn right_range(alloc: Global, answer: AnswerRange) -> Result<AnswerRange, AllocError>
+    ensures value { IfOk result (λ r. result_range r ≡ right_range (result_range answer)) }
+{
+    let (out, decision) = answer;
+    Ok((make_sides(alloc, OutRange::Nothing, out)?, decision))
+}
+
+// The results under a test of a number of a span, if there is one.
+fn test_range(test: Test, span: Option<Span>, answer: AnswerRange) -> AnswerRange
+    ensures value { result_range result ≡ test_range test span (result_range answer) }
+{
+    let (out, decision) = answer;
+    (out, decision.under(test, span))
 }
 
 // Two parts in turn.

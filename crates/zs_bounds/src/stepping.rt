@@ -9,10 +9,11 @@ ghost use Rattle.zs_bounds.specs.Reads.{Shows};
 ghost use Rattle.zs_bounds.specs.Steps.{Gives, IsLeft, IsRight, IsEither, DecideBoth, Moves, MoveBoth, MovesPart, MovesTurns, over_range, over_next, items_range, items_next, pairs_output, merged_range, first_turn_range, second_turn_range, may_end, stays_on};
 
 use crate::decisions::{Decisions, may_fail, may_pass, more_items};
+use crate::joins::join_read;
 use crate::leaves::leaf_range;
 use crate::node::Node;
 use crate::ranges::{OutRange, func_range, make_pairs, picked_span};
-use crate::reads::{Reads, join_read};
+use crate::reads::Reads;
 use crate::refreshing::{add_first, refresh};
 use crate::span::{Span, any_input};
 use crate::turns::{ResetRule, Turn, Turns};

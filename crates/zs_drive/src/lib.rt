@@ -14,6 +14,7 @@
 //! Begin with `specs/Timeline.antt` and `specs/Tasks.antt`.
 #![tactic(auto)]
 
+mod attempt_lines;
 mod fault;
 mod job;
 mod laws;
@@ -23,9 +24,9 @@ mod progress;
 mod record;
 mod task;
 
+pub use attempt_lines::append_attempt;
 pub use fault::DriveFault;
 pub use job::{Job, Mode};
 pub use laws::{due_polls_suffice, moments_rise, one_timeline, timelines_are_whole};
-pub use lines::append_attempt;
 pub use record::{Attempted, Ended, Ending, Keeping};
 pub use task::Task;

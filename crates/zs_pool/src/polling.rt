@@ -10,32 +10,10 @@ use crate::batch::Batch;
 use crate::fault::PoolFault;
 use crate::gate::Gate;
 use crate::polled::Polled;
-use crate::poller::{Poller, Polling};
+use crate::poller::{Poller, Polling, poll_one};
 use crate::tally::{Tally, TallySeat};
-use futures::Future;
 use std::alloc::Global;
 use zs_drive::Task;
-
-/// Polls one task at `now`, and counts it. If the poll runs out of memory, the task is broken.
-pub fn poll_one<G: Gate>(
-    polling: &mut Polling<'_, G>,
-    tally: &Tally,
-    seat: &mut TallySeat,
-    now: u64,
-    task: &mut Task,
-)
-    requires tally { seat.old.tally ≡ tally.now }
-    requires allowance { 1 ≤ seat.old.allowance }
-    requires pollable { IsPollable now task.old }
-    ensures polled { IsPolled now task.old task.new }
-    ensures counted { HasCounted seat.old 1 seat.new }
-{
-    let done = tally.seen(seat);
-    polling.gate.pass(task.number(), now, done);
-    task.see(now);
-    let _answer = task.poll(&mut polling.cx);
-    tally.count(seat);
-}
 
 // Polls each task in order.
 fn poll_each<G: Gate>(

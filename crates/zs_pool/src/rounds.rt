@@ -1,9 +1,10 @@
 //! One moment's due tasks, shared among workers.
 ghost use Rattle.std.specs.Prelude.{◌≡◌, ◌≢◌, ◌+◌, ◌*◌, ◌≤◌, All, IfOk, IfErr, OnOk, map, length};
 ghost use Rattle.std.specs.List.Sorted.{IsStrictlyIncreasing};
+ghost use Rattle.zs_pool.specs.Batches.{AreCut, AreNumbered, tasks_of};
 ghost use Rattle.zs_pool.specs.Limits.{max_tasks};
 ghost use Rattle.zs_pool.specs.Rounds.{polled_at, IsPollable};
-ghost use Rattle.zs_pool.specs.declared.fault.PoolFault.TheVariants.{Full};
+ghost use Rattle.zs_pool.specs.declared.fault.PoolFault.TheVariants.{Full, Memory};
 
 mod batches;
 pub(crate) mod cut;
@@ -11,10 +12,11 @@ mod shared;
 mod sharing;
 mod workers;
 
+use crate::batch::Batch;
 use crate::fault::PoolFault;
 use crate::gate::Gate;
 use crate::rounds::batches::in_order;
-use crate::rounds::cut::{Cut, cut_into};
+use crate::rounds::cut::Cut;
 use crate::rounds::sharing::{Work, poll_shared};
 use crate::tally::{Tally, TallySeat};
 use std::alloc::Global;
@@ -22,6 +24,24 @@ use std::snapshot::Snapshot;
 use std::sync::Wait;
 use std::thread::Threads;
 use zs_drive::Task;
+
+// Cuts the tasks into batches of `grain`, from the last on. The last batch may be shorter.
+fn cut_into(alloc: Global, grain: u64, mut tasks: Vec<Task>) -> Result<Vec<Batch>, PoolFault>
+    requires grain { 1 ≤ grain }
+    ensures numbered { IfOk result (λ v. AreNumbered v.items) }
+    ensures cutting { IfOk result (λ v. tasks_of v.items ≡ tasks.items) }
+    ensures cut { IfOk result (λ v. AreCut grain v.items) }
+    ensures memory { IfErr result (λ e. e ≡ Memory) }
+{
+    let count = (tasks.len() as u64).div_ceil(grain);
+    let mut batches = Vec::with_capacity(alloc, count as usize)?;
+    for number in (0..count).rev() {
+        let own = tasks.split_off((number * grain) as usize)?;
+        batches.push(Batch { number, tasks: own })?;
+    }
+    batches.reverse();
+    Ok(batches)
+}
 
 /// Polls each task once at `now`, in milliseconds, and counts it. Each worker claims batches of
 /// `grain` tasks until the board is empty.

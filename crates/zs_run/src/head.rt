@@ -1,22 +1,19 @@
-//! The parts of a population's input: a document without jobs, and the bytes of one job.
-ghost use Rattle.std.specs.Prelude.{◌≡◌, ℕ, List, map, IfOk, None, Ok};
+//! The head of a population: a document without jobs.
+ghost use Rattle.std.specs.Prelude.{◌≡◌, map, IfOk, None, Ok};
 ghost use Rattle.serde_json.specs.View.{view};
 ghost use Rattle.zs_drive.specs.Values.{job_record};
 ghost use Rattle.zs_run.specs.declared.plan_fault.PlanFault.TheVariants as faults;
 ghost use Rattle.zs_run.specs.Refusals.{Gives};
-ghost use Rattle.zs_run.specs.Head.{head_of, head_of_tree, job_of_bytes};
+ghost use Rattle.zs_run.specs.Head.{head_of, head_of_tree};
 ghost use Rattle.zs_run.specs.HeadView.{head_record, plan_with};
-ghost use Rattle.zs_run.specs.Names.{KnowsNames};
 
-use crate::job_reading::job_of;
 use crate::plan::Plan;
 use crate::plan_fault::PlanFault;
-use crate::reading::{MAX_BYTES, read_tree};
+use crate::reading::MAX_BYTES;
 use crate::shapes::AskedTicks;
-use crate::tree::{has_only_keys, whole_or};
+use crate::tree::{has_only_keys, read_tree, whole_or};
 use serde_json::Value;
 use std::alloc::{AllocError, Global};
-use std::collections::BTreeSet;
 use zs_agenda::Clock;
 use zs_drive::Job;
 use zs_pool::Cut;
@@ -69,23 +66,4 @@ pub fn read_head(alloc: Global, bytes: &[u8]) -> Result<Head, PlanFault>
     }
     let document = read_tree(alloc, bytes)?;
     head_in(alloc, &document)
-}
-
-/// Reads the job with this number from bytes, after those whose names are given. The error is its
-/// first fault.
-#[tactic(auto, unfolding(crate::specs::Head::job_of_bytes))]
-pub fn read_job(
-    alloc: Global,
-    number: u64,
-    names: &BTreeSet<String>,
-    bytes: &[u8],
-) -> Result<Job, PlanFault>
-    ensures job { (earlier : List (List ℕ)) → KnowsNames names.now earlier
-        → Gives job_record result (job_of_bytes number earlier bytes.now) }
-{
-    if bytes.len() > MAX_BYTES {
-        return Err(PlanFault::TooLong);
-    }
-    let value = read_tree(alloc, bytes)?;
-    job_of(alloc, number, names, &value)
 }

@@ -1,4 +1,4 @@
-//! The jobs of a plan.
+//! The jobs of a plan or a population.
 ghost use Rattle.std.specs.Prelude.{◌≡◌, ◌<◌, ◌^◌, ◌++◌, ◌∷◌, ◌&&◌, [], ℕ, List, map, option_map, length, IfOk, IfErr, OnOk, Some};
 ghost use Rattle.std.specs.List.{list_all};
 ghost use Rattle.serde_json.specs.View.{view};
@@ -10,12 +10,14 @@ ghost use Rattle.zs_run.specs.Refusals.{Gives, passed_on};
 ghost use Rattle.zs_run.specs.Tree.{has_only_keys};
 ghost use Rattle.zs_run.specs.Shapes.{entry_keys, job_keys};
 ghost use Rattle.zs_run.specs.Names.{KnowsNames, LearnsName};
+ghost use Rattle.zs_run.specs.Head.{job_of_bytes};
 ghost use Rattle.zs_run.specs.Jobs.{job_of, jobs_of, mode_of, script_of};
 
 use crate::entry::beats_of;
 use crate::names::is_name;
 use crate::plan_fault::PlanFault;
-use crate::tree::{has_only_keys, list, text, whole_or};
+use crate::reading::MAX_BYTES;
+use crate::tree::{has_only_keys, list, read_tree, text, whole_or};
 use serde_json::Value;
 use std::alloc::{AllocError, Global};
 use std::collections::BTreeSet;
@@ -140,7 +142,26 @@ pub(crate) fn job_of(
     })
 }
 
-// The same of a value that is dropped as soon as it is read.
+/// Reads the job with this number from bytes, after those whose names are given. The error is its
+/// first fault.
+#[tactic(auto, unfolding(crate::specs::Head::job_of_bytes))]
+pub fn read_job(
+    alloc: Global,
+    number: u64,
+    names: &BTreeSet<String>,
+    bytes: &[u8],
+) -> Result<Job, PlanFault>
+    ensures job { (earlier : List (List ℕ)) → KnowsNames names.now earlier
+        → Gives job_record result (job_of_bytes number earlier bytes.now) }
+{
+    if bytes.len() > MAX_BYTES {
+        return Err(PlanFault::TooLong);
+    }
+    let value = read_tree(alloc, bytes)?;
+    job_of(alloc, number, names, &value)
+}
+
+// The job of a value that is dropped as soon as it is read.
 fn take_job(
     alloc: Global,
     number: u64,

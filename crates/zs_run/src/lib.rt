@@ -29,8 +29,8 @@ mod streams;
 mod transfer;
 mod tree;
 
-pub use head::{Head, read_head, read_job};
-pub use job_reading::add_job;
+pub use head::{Head, read_head};
+pub use job_reading::{add_job, read_job};
 pub use laws::{
     accepted_plans_are_lawful, no_default_is_told, reports_join, reports_tell_apart,
     the_cut_changes_nothing,

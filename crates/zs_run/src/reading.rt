@@ -3,8 +3,7 @@ ghost use Rattle.std.specs.Prelude.{◌≡◌, ◌≤◌, ◌+◌, ◌↔◌, []
 ghost use Rattle.serde_json.specs.View.{view};
 ghost use Rattle.zs_run.specs.declared.plan_fault.PlanFault.TheVariants as faults;
 ghost use Rattle.zs_run.specs.Streams.{ReadsUpTo};
-ghost use Rattle.zs_run.specs.Refusals.{Gives, demand_some};
-ghost use Rattle.zs_run.specs.Tree.{tree_of};
+ghost use Rattle.zs_run.specs.Refusals.{Gives};
 ghost use Rattle.zs_run.specs.Plan.{max_jobs, plan_of, plan_of_tree};
 ghost use Rattle.zs_run.specs.PlanView.{plan_record};
 
@@ -13,7 +12,7 @@ use crate::plan::Plan;
 use crate::plan_fault::PlanFault;
 use crate::shapes::{AskedTicks, DocumentParts};
 use crate::streams::Source;
-use crate::tree::has_only_keys;
+use crate::tree::{has_only_keys, read_tree};
 use serde_json::Value;
 use std::alloc::Global;
 use zs_pool::{Cut, MAX_TASKS};
@@ -63,18 +62,6 @@ pub(crate) fn read_up_to<R: Source>(
         }
     }
     Ok(())
-}
-
-/// The document that the bytes are.
-#[tactic(auto, using(crate::proofs::Trees::tree_of_text, crate::proofs::Trees::tree_of_none))]
-pub(crate) fn read_tree(alloc: Global, bytes: &[u8]) -> Result<Value, PlanFault>
-    ensures value { Gives view result (demand_some (tree_of bytes.now) faults.Json) }
-{
-    match Value::from_slice(alloc, bytes) {
-        Ok(value) => Ok(value),
-        Err(error) if error.is_memory() => Err(PlanFault::Memory),
-        Err(_) => Err(PlanFault::Json),
-    }
 }
 
 // The plan of a document.

@@ -8,10 +8,11 @@ ghost use Rattle.zs_step.specs.State.{state_schedule};
 use crate::decision::Decision;
 use crate::fault::StepFault;
 use crate::numbers::Numbers;
+use crate::output_text::append;
 use crate::state::{State, state_of};
 use crate::stepped::Stepped;
 use crate::stepping::{StepInput, Trace, join_lists, step_node};
-use crate::view::{append, make_out};
+use crate::view::make_out;
 use std::alloc::{AllocError, Global};
 use zs_term::{Checked, Out};
 

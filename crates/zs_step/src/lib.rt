@@ -21,6 +21,7 @@ mod laws;
 mod leaf;
 mod leaves;
 mod numbers;
+mod output_text;
 mod state;
 mod stepped;
 mod stepping;

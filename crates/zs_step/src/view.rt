@@ -1,8 +1,7 @@
-//! The output of a state's last step: the number that tests read, the output itself, and its text.
+//! The output of a state's last step: the number that tests read, and the output itself.
 
-ghost use Rattle.std.specs.Prelude.{◌≡◌, ◌≤◌, true, IfOk, IsOk, OnOk};
+ghost use Rattle.std.specs.Prelude.{◌≡◌, ◌≤◌, true, IfOk, IsOk};
 ghost use Rattle.zs_term.specs.Output.{output_of, pair, applied};
-ghost use Rattle.zs_term.specs.OutputText.{output_text, Adds, Extends};
 ghost use Rattle.zs_step.specs.Memory.{is_bare};
 ghost use Rattle.zs_step.specs.Numbers.{IsNumbers, IsSource, returns_piece, height};
 ghost use Rattle.zs_step.specs.State.{last_output, side_output, state_schedule};
@@ -10,12 +9,12 @@ ghost use Rattle.zs_step.specs.State.{last_output, side_output, state_schedule};
 use crate::numbers::Numbers;
 use crate::state::State;
 use std::alloc::{AllocError, Global};
-use zs_term::{Func, Out, Pick, append_number, append_outs, make_left, make_pair, make_right};
+use zs_term::{Func, Out, Pick, make_left, make_pair, make_right};
 
 // Goes down to the node that makes the output: through each node that returns its part's output, or
 // a piece of it.
 #[cycle(sources)]
-fn source(state: &State) -> &State
+pub(crate) fn source(state: &State) -> &State
     ensures value { last_output result.now ≡ last_output state.now }
     ensures source { IsSource result.now }
     ensures lower { height result.now ≤ height state.now }
@@ -118,41 +117,4 @@ fn make_both(alloc: Global, parts: &(State, State)) -> Result<Out, AllocError>
     let first = make_out(alloc, &parts.0)?;
     let second = make_out(alloc, &parts.1)?;
     make_pair(alloc, first, second)
-}
-
-// Appends the text of the output. If that fails, the text may end with a part of it.
-#[cycle(texts)]
-pub(crate) fn append(text: &mut String, state: &State) -> Result<(), AllocError>
-    ensures ok { OnOk result (Adds text.old text.new (output_text (last_output state.now))) }
-    ensures kept { Extends text.old text.new }
-{
-    match source(state) {
-        State::Both { parts } | State::Either { parts } => append_both(text, parts),
-        State::AndThen { done, parts } => {
-            if *done {
-                text.push_str("Right(")?;
-                append(text, &parts.1)?;
-            } else {
-                text.push_str("Left(")?;
-                append(text, &parts.0)?;
-            }
-            text.push_str(")")
-        }
-        State::CollectAll { kept, .. } => append_outs(text, kept.list()),
-        node => append_number(text, read_numbers(node).pick(Pick::Whole)),
-    }
-}
-
-// Appends the text of a pair of the outputs of two states.
-#[cycle(texts)]
-fn append_both(text: &mut String, parts: &(State, State)) -> Result<(), AllocError>
-    ensures ok { OnOk result (Adds text.old text.new
-        (output_text (pair (last_output parts.now.0) (last_output parts.now.1)))) }
-    ensures kept { Extends text.old text.new }
-{
-    text.push_str("(")?;
-    append(text, &parts.0)?;
-    text.push_str(",")?;
-    append(text, &parts.1)?;
-    text.push_str(")")
 }

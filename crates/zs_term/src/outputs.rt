@@ -2,9 +2,9 @@
 
 ghost use Rattle.std.specs.Prelude.{◌≡◌, IfOk, OnOk};
 ghost use Rattle.std.specs.Arc.{arc_value};
-ghost use Rattle.zs_term.specs.Output.{output_of, outputs_of, outs_list, number, pair, listed, left, right, passes, picked, applied, number_in, size_in, Appends};
+ghost use Rattle.zs_term.specs.Output.{output_of, outputs_of, outs_list, number, pair, listed, left, right, picked, applied, number_in, size_in, Appends};
 
-use crate::term::{Cmp, Func, Pick, Test};
+use crate::term::{Func, Pick};
 use std::alloc::{AllocError, Global};
 use std::mem::replace;
 use std::sync::Arc;
@@ -212,22 +212,6 @@ pub fn make_list(items: Vec<Out>) -> Out
     ensures value { output_of result ≡ listed (outputs_of items.items) }
 {
     Out::Items(Outs::new(items))
-}
-
-impl Test {
-    /// Whether a number passes the test.
-    pub fn passes(self, x: u64) -> bool
-        ensures value { result ≡ passes self x }
-    {
-        match self.cmp {
-            Cmp::Lt => x < self.than,
-            Cmp::Le => x <= self.than,
-            Cmp::Eq => x == self.than,
-            Cmp::Ne => x != self.than,
-            Cmp::Gt => x > self.than,
-            Cmp::Ge => x >= self.than,
-        }
-    }
 }
 
 impl Pick {

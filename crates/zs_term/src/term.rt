@@ -1,5 +1,8 @@
 //! The terms of schedules.
 
+ghost use Rattle.std.specs.Prelude.{◌≡◌};
+ghost use Rattle.zs_term.specs.Output.{passes};
+
 /// How a test compares a value with a number.
 #[derive(Clone, Copy, Debug, PartialEq, Eq)]
 pub enum Cmp {
@@ -24,6 +27,22 @@ pub struct Test {
     pub cmp: Cmp,
     /// The number on its right.
     pub than: u64,
+}
+
+impl Test {
+    /// Whether a number passes the test.
+    pub fn passes(self, x: u64) -> bool
+        ensures value { result ≡ passes self x }
+    {
+        match self.cmp {
+            Cmp::Lt => x < self.than,
+            Cmp::Le => x <= self.than,
+            Cmp::Eq => x == self.than,
+            Cmp::Ne => x != self.than,
+            Cmp::Gt => x > self.than,
+            Cmp::Ge => x >= self.than,
+        }
+    }
 }
 
 /// The part of an output that a test reads.

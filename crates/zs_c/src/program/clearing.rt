@@ -3,10 +3,19 @@
 ghost use Rattle.std.specs.Prelude.{◌≡◌, [], length};
 ghost use Rattle.zs_term.specs.Schedule.{Schedule};
 ghost use Rattle.zs_c.specs.Code.{IsCode, held_of, held_size};
+ghost use Rattle.zs_c.specs.Leaves.{ClearsLeaf};
 ghost use Rattle.zs_c.specs.Steps.{ClearsParts};
 
-use crate::program::leaf::clear_leaf;
+use crate::program::leaf::store;
 use crate::program::node::{Form, Sizes, front, read_node, words_after};
+use zs_step::Leaf;
+
+// Resets the words of a leaf that is as before any step.
+fn clear_leaf(leaf: Leaf, words: &mut [u64])
+    ensures clears { ClearsLeaf leaf words.old words.new }
+{
+    store(&leaf, 0, words);
+}
 
 // Resets the words of a code's state to those before any step.
 #[cycle(clearing)]

@@ -4,7 +4,7 @@ ghost use Rattle.std.specs.Prelude.{◌≡◌, ◌∷◌};
 ghost use Rattle.zs_step.specs.History.{History};
 ghost use Rattle.zs_step.specs.LeafState.{state_leaf};
 ghost use Rattle.zs_c.specs.Code.{leaf_held};
-ghost use Rattle.zs_c.specs.Leaves.{ClearsLeaf, DecidesLeaf, Stores, loaded, stored, if_begun, past_in, first_in};
+ghost use Rattle.zs_c.specs.Leaves.{DecidesLeaf, Stores, loaded, stored, if_begun, past_in, first_in};
 
 use crate::program::node::word;
 use crate::room::put_words;
@@ -15,13 +15,6 @@ use zs_step::{Decision, Leaf, Past};
 pub(crate) struct Step {
     pub(crate) moment: u64,
     pub(crate) input: u64,
-}
-
-// Resets the words of a leaf that is as before any step.
-pub(crate) fn clear_leaf(leaf: Leaf, words: &mut [u64])
-    ensures clears { ClearsLeaf leaf words.old words.new }
-{
-    store(&leaf, 0, words);
 }
 
 // Steps a leaf once, in the words of its state.
@@ -90,7 +83,7 @@ fn load_past(words: &[u64]) -> Option<Past>
 // Stores a leaf: its output, and what its next step needs to know. `steps` is the number of steps,
 // which some leaves store.
 #[inline(always)]
-fn store(leaf: &Leaf, steps: u64, words: &mut [u64])
+pub(crate) fn store(leaf: &Leaf, steps: u64, words: &mut [u64])
     ensures stored { Stores leaf.now steps words.old words.new }
 {
     let output = leaf.output();

@@ -1,13 +1,7 @@
-//! How the tasks of a round are shared out, and the limits. Cuts tasks into batches.
-ghost use Rattle.std.specs.Prelude.{◌≡◌, ◌≤◌, ◌↔◌, ◌==◌, ◌||◌, nat_le, IsSome, IfSome, IfOk, IfErr};
+//! How the tasks of a round are shared out, and the limits.
+ghost use Rattle.std.specs.Prelude.{◌≡◌, ◌≤◌, ◌↔◌, ◌==◌, ◌||◌, nat_le, IsSome, IfSome};
 ghost use Rattle.zs_pool.specs.Limits.{max_workers, max_tasks};
-ghost use Rattle.zs_pool.specs.Batches.{IsCut, AreNumbered, AreCut, tasks_of};
-ghost use Rattle.zs_pool.specs.declared.fault.PoolFault.TheVariants.{Memory};
-
-use crate::batch::Batch;
-use crate::fault::PoolFault;
-use std::alloc::Global;
-use zs_drive::Task;
+ghost use Rattle.zs_pool.specs.Batches.{IsCut};
 
 // The greatest number of threads that poll at once.
 const MAX_WORKERS: u64 = 64;
@@ -56,26 +50,4 @@ impl Cut {
     {
         self.workers == 1 || due <= self.grain
     }
-}
-
-// Cuts the tasks into batches of `grain`, from the last on. The last batch may be shorter.
-pub(crate) fn cut_into(
-    alloc: Global,
-    grain: u64,
-    mut tasks: Vec<Task>,
-) -> Result<Vec<Batch>, PoolFault>
-    requires grain { 1 ≤ grain }
-    ensures numbered { IfOk result (λ v. AreNumbered v.items) }
-    ensures cutting { IfOk result (λ v. tasks_of v.items ≡ tasks.items) }
-    ensures cut { IfOk result (λ v. AreCut grain v.items) }
-    ensures memory { IfErr result (λ e. e ≡ Memory) }
-{
-    let count = (tasks.len() as u64).div_ceil(grain);
-    let mut batches = Vec::with_capacity(alloc, count as usize)?;
-    for number in (0..count).rev() {
-        let own = tasks.split_off((number * grain) as usize)?;
-        batches.push(Batch { number, tasks: own })?;
-    }
-    batches.reverse();
-    Ok(batches)
 }

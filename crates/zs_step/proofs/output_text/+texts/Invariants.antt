@@ -1,6 +1,6 @@
 use Rattle.std.proofs.Common.{◌+◌, ◌*◌}
 use Rattle.zs_step.specs.Numbers.{height}
-use Rattle.zs_step.proofs.view.+texts.Given as goal
+use Rattle.zs_step.proofs.output_text.+texts.Given as goal
 
 abbrev pub decreases-append : goal.decreases-append
 decreases-append l = 2 * height l.state.now

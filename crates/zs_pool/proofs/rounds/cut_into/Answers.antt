@@ -2,7 +2,7 @@ use Rattle.std.proofs.Common.{◌≡◌, ◌∷◌, [], ◌-◌, ℕ, List, suc,
 use Rattle.std.proofs.lemmas.List.{reverse-append}
 use Rattle.zs_pool.specs.Batches.{BatchValue}
 use Rattle.zs_pool.proofs.Cuts.{Cutting, cut_more}
-use Rattle.zs_pool.proofs.rounds.cut.cut_into.Goals as goal
+use Rattle.zs_pool.proofs.rounds.cut_into.Goals as goal
 
 pub loop-number-preserved : goal.loop-number-preserved
 loop-number-preserved c =

@@ -1,6 +1,6 @@
 use Rattle.std.proofs.Common.{◌∙◌}
 use Rattle.zs_term.proofs.Texts.{cut_after}
-use Rattle.zs_drive.proofs.lines.append_attempt.Goals as goal
+use Rattle.zs_drive.proofs.attempt_lines.append_attempt.Goals as goal
 
 pub truncate-requires : goal.truncate-requires
 truncate-requires c = λ _.

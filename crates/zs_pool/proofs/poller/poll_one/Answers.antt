@@ -2,7 +2,7 @@ use Rattle.std.proofs.Common.{◌≡◌, ◌⊎◌, subst}
 use Rattle.std.specs.Prelude.{false, true, ⊤}
 use Rattle.zs_drive.specs.Tasks.{TaskValue, current_timeline, polled, reply_of, MatchMemory, IsDue}
 use Rattle.zs_pool.proofs.Polls.{is_polled}
-use Rattle.zs_pool.proofs.polling.poll_one.Goals as goal
+use Rattle.zs_pool.proofs.poller.poll_one.Goals as goal
 
 pub returns-clause-polled : goal.returns-clause-polled
 returns-clause-polled g c =
