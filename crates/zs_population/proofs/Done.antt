@@ -7,8 +7,6 @@ use Rattle.std.proofs.Common.{String, Global}
 use Rattle.std.proofs.KnownBytes.{Appends-trans}
 use Rattle.std.proofs.lemmas.List.{map-append, take-append-le}
 use Rattle.std.proofs.Math.Seq.{take-append-add}
-use Rattle.sha2.specs.Hashers.{Holds256}
-use Rattle.sha2.specs.declared.Sha256.{Sha256}
 use Rattle.zs_agenda.specs.Ticks.{Ticks}
 use Rattle.zs_drive.specs.Values.{JobRecord}
 use Rattle.zs_run.specs.Names.{KnowsNames}
@@ -19,6 +17,8 @@ use Rattle.zs_population.specs.Blocks.{IsDone}
 use Rattle.zs_lines.specs.Buffers.{Took}
 use Rattle.zs_population.specs.Population.{block_jobs, jobs_at}
 use Rattle.zs_population.specs.Reads.{BlockReads, names_of}
+use Rattle.zs_population.specs.Tails.{HasDigested}
+use Rattle.zs_population.specs.declared.digest.ReportDigest.{ReportDigest}
 use Rattle.zs_lines.proofs.LineLemmas.{begins, took-more, took-nothing}
 use Rattle.zs_population.proofs.JobsLemmas.{jobs-joined}
 
@@ -42,8 +42,8 @@ pub record Joined (first : ℕ) (ahead ahead_now : Option (List ℕ)) (names : B
   pub known : KnowsNames names (names_of (old ++ more))
 
 -- no block yet
-pub done-nothing : (clock : Ticks) (first : ℕ) (ahead : Option (List ℕ)) (names : BTreeSet (String Global)) (before : Option (List ℕ)) (digest : Sha256) → KnowsNames names []
-    → Holds256 digest [] → IsDone clock first ahead ahead names 0 0 0 before before digest
+pub done-nothing : (clock : Ticks) (first : ℕ) (ahead : Option (List ℕ)) (names : BTreeSet (String Global)) (before : Option (List ℕ)) (digest : ReportDigest) → KnowsNames names []
+    → HasDigested digest [] → IsDone clock first ahead ahead names 0 0 0 before before digest
 unfolding jobs_at
 done-nothing clock first ahead names before digest known empty = record {
   lines = [];
@@ -69,7 +69,7 @@ total-follows lines polls tail =
     sym (append_assoc lines (with_total [] polls) tail)
     ∙ ap (λ (bs : List ℕ). bs ++ tail) (sym (with_total-append lines [] polls) ∙ ap (λ (bs : List ℕ). with_total bs polls) (append-nil lines))
 
-module _ (clock : Ticks) (first : ℕ) (ahead mid now : Option (List ℕ)) (names known : BTreeSet (String Global)) (blocks polls sent : ℕ) (before taken : Option (List ℕ)) (digest : Sha256) where
+module _ (clock : Ticks) (first : ℕ) (ahead mid now : Option (List ℕ)) (names known : BTreeSet (String Global)) (blocks polls sent : ℕ) (before taken : Option (List ℕ)) (digest : ReportDigest) where
   -- the jobs of a block join those of the blocks before
   pub joined : (done : IsDone clock first ahead mid names blocks polls sent before taken digest) (more : List JobRecord)
       → BlockReads (first + blocks * block_jobs) mid now names known more → Joined first ahead now known done.jobs more
@@ -85,10 +85,10 @@ module _ (clock : Ticks) (first : ℕ) (ahead mid now : Option (List ℕ)) (name
       }
 
   -- one more whole block
-  pub more-done : (done : IsDone clock first ahead mid names blocks polls sent before taken digest) (more : List JobRecord) (written : Option (List ℕ)) (count told : ℕ) (hasher : Sha256)
+  pub more-done : (done : IsDone clock first ahead mid names blocks polls sent before taken digest) (more : List JobRecord) (written : Option (List ℕ)) (count told : ℕ) (hasher : ReportDigest)
       → BlockReads (first + blocks * block_jobs) mid now names known more → length more ≡ block_jobs
       → count ≡ polls + polls_of clock more → told ≡ sent + length (jobs_text clock more)
-      → Appends taken written (jobs_text clock more) → ((m : List ℕ) → Holds256 digest m → Holds256 hasher (m ++ jobs_text clock more))
+      → Appends taken written (jobs_text clock more) → ((m : List ℕ) → HasDigested digest m → HasDigested hasher (m ++ jobs_text clock more))
       → IsDone clock first ahead now known (blocks + 1) count told before written hasher
   more-done done more written count told hasher reads many counts tells writes takes =
       let all = joined done more reads in
@@ -125,13 +125,13 @@ module _ (clock : Ticks) (first : ℕ) (ahead mid now : Option (List ℕ)) (name
       ∙ ap (λ (bs : List ℕ). jobs_text clock done.jobs ++ bs) (sym begins)
 
   -- the report was digested
-  pub digested-report : (done : IsDone clock first ahead mid names blocks polls sent before taken digest) (more : List JobRecord) (plan : PlanRecord) (text : List ℕ) (hasher : Sha256)
+  pub digested-report : (done : IsDone clock first ahead mid names blocks polls sent before taken digest) (more : List JobRecord) (plan : PlanRecord) (text : List ℕ) (hasher : ReportDigest)
       → plan.clock ≡ clock → plan.jobs ≡ done.jobs ++ more → text ≡ with_total (jobs_text clock more) (polls_of clock (done.jobs ++ more))
-      → ((m : List ℕ) → Holds256 digest m → Holds256 hasher (m ++ text)) → Holds256 hasher (report_of plan)
+      → ((m : List ℕ) → HasDigested digest m → HasDigested hasher (m ++ text)) → HasDigested hasher (report_of plan)
   digested-report done more plan text hasher clocks jobs is takes =
       let whole : report_of plan ≡ jobs_text clock done.jobs ++ text =
       report-is done more plan clocks jobs ∙ ap (λ (bs : List ℕ). jobs_text clock done.jobs ++ bs) (sym is) in
-      subst (λ (bs : List ℕ). Holds256 hasher bs) (sym whole) (takes (jobs_text clock done.jobs) done.digested)
+      subst (λ (bs : List ℕ). HasDigested hasher bs) (sym whole) (takes (jobs_text clock done.jobs) done.digested)
 
   -- A part of a block's text was written after all of the blocks before it. All text that was
   -- written is a beginning of the report of all jobs so far, and what follows it.

@@ -5,8 +5,6 @@ use Rattle.std.specs.Prelude.{IsErrOf, IsTrue, ◌↔◌}
 use Rattle.std.specs.BTreeSet.{BTreeSet}
 use Rattle.std.specs.Io.KnownBytes.{Appends, IsAtEnd, prepend_known}
 use Rattle.std.proofs.lemmas.Nat.{div-mul-add}
-use Rattle.sha2.specs.Hashers.{Holds256}
-use Rattle.sha2.specs.declared.Sha256.{Sha256}
 use Rattle.zs_drive.specs.Values.{JobRecord}
 use Rattle.zs_engine.specs.declared.fault.EngineFault.{EngineFault}
 use Rattle.zs_run.specs.Head.{HeadRecord, head_of}
@@ -20,8 +18,9 @@ use Rattle.zs_population.specs.Population.{block_jobs}
 use Rattle.zs_population.specs.Reads.{BlockFault, BlockReads, HeadFault, SkipFault, names_of}
 use Rattle.zs_population.specs.Skipped.{Skipped}
 use Rattle.zs_population.specs.Sums.{sums_of}
-use Rattle.zs_population.specs.Tails.{EndFault, StaysAtEnd}
+use Rattle.zs_population.specs.Tails.{EndFault, HasDigested, StaysAtEnd}
 use Rattle.zs_population.specs.Trailer.{FollowsReport, trailer_of}
+use Rattle.zs_population.specs.declared.digest.ReportDigest.{ReportDigest}
 use Rattle.zs_population.specs.declared.range.JobRange.{JobRange}
 use Rattle.zs_population.specs.declared.fault.PopulationFault.{PopulationFault}
 use Rattle.zs_population.specs.declared.fault.PopulationFault.TheVariants.{Read, Line, Engine, Write, Report, Missing, Words}
@@ -57,7 +56,7 @@ some-tail false range before report = ([], refl)
 some-tail true range None report = ([], tt)
 some-tail true range (Some known) report = (trailer_of range (sums_of (lines_of known)) report, refl)
 
-module _ (range : JobRange) (start after ahead mid : Option (List ℕ)) (first : List ℕ) (head : HeadRecord) (names : BTreeSet (String Global)) (polls sent : ℕ) (before taken : Option (List ℕ)) (digest : Sha256)
+module _ (range : JobRange) (start after ahead mid : Option (List ℕ)) (first : List ℕ) (head : HeadRecord) (names : BTreeSet (String Global)) (polls sent : ℕ) (before taken : Option (List ℕ)) (digest : ReportDigest)
     (took : Took start after (first ∷ [])) (skips : Skipped range.first after ahead) (is : head_of first ≡ Ok head) where
   abbrev Done : ℕ → Type 0
   Done blocks = IsDone head.clock range.first ahead mid names blocks polls sent before taken digest
@@ -169,10 +168,10 @@ module _ (range : JobRange) (start after ahead mid : Option (List ℕ)) (first :
 
   -- a part of the last block, and of what follows the report, was written
   pub ends-unwritten-last : (blocks : ℕ) (done : Done blocks) (now left written : Option (List ℕ)) (known : BTreeSet (String Global)) (more : List JobRecord)
-      (block tail text : List ℕ) (hasher : Sha256) (count : ℕ) (read flushed : Bool) (Untouched : Type 0) → BlockReads (range.first + blocks * block_jobs) mid now names known more
+      (block tail text : List ℕ) (hasher : ReportDigest) (count : ℕ) (read flushed : Bool) (Untouched : Type 0) → BlockReads (range.first + blocks * block_jobs) mid now names known more
       → blocks * block_jobs + length more ≤ range.count
       → block ≡ with_total (jobs_text head.clock more) (polls_of head.clock (done.jobs ++ more)) → text ≡ block ++ tail
-      → ((m : List ℕ) → Holds256 digest m → Holds256 hasher (m ++ block)) → ((report : List ℕ) → Holds256 hasher report → FollowsReport range.is_part range start report tail)
+      → ((m : List ℕ) → HasDigested digest m → HasDigested hasher (m ++ block)) → ((report : List ℕ) → HasDigested hasher report → FollowsReport range.is_part range start report tail)
       → count ≤ length text → Appends taken written (take count text)
       → read ≡ false
       → Ends range (Err (Write (sent + count))) (record { before = start; left = left; failed = read }) (record { before = before; taken = written; failed = true; flushed = flushed }) Untouched
@@ -184,11 +183,11 @@ module _ (range : JobRange) (start after ahead mid : Option (List ℕ)) (first :
 
   -- the last block was written, and what follows the report
   pub ends-well : (blocks : ℕ) (done : Done blocks) (now left written : Option (List ℕ)) (known : BTreeSet (String Global)) (more : List JobRecord)
-      (block tail text : List ℕ) (hasher : Sha256) (read flushed : Bool) (Untouched : Type 0) (end : Unit {0}) → BlockReads (range.first + blocks * block_jobs) mid now names known more
+      (block tail text : List ℕ) (hasher : ReportDigest) (read flushed : Bool) (Untouched : Type 0) (end : Unit {0}) → BlockReads (range.first + blocks * block_jobs) mid now names known more
       → blocks * block_jobs + length more ≤ range.count
       → (blocks * block_jobs + length more < range.count → IsAtEnd now) → StaysAtEnd now left
       → block ≡ with_total (jobs_text head.clock more) (polls_of head.clock (done.jobs ++ more)) → text ≡ block ++ tail
-      → ((m : List ℕ) → Holds256 digest m → Holds256 hasher (m ++ block)) → ((report : List ℕ) → Holds256 hasher report → FollowsReport range.is_part range start report tail)
+      → ((m : List ℕ) → HasDigested digest m → HasDigested hasher (m ++ block)) → ((report : List ℕ) → HasDigested hasher report → FollowsReport range.is_part range start report tail)
       → Appends taken written text
       → read ≡ false → flushed ≡ true
       → Ends range (Ok end) (record { before = start; left = left; failed = read }) (record { before = before; taken = written; failed = false; flushed = flushed }) Untouched

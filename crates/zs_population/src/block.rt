@@ -214,8 +214,8 @@ pub(crate) fn read_block<R: Source>(
     Ok(jobs)
 }
 
-// Runs the jobs of a plan: the lines of their report up to the last one, and the number of polls.
-fn lines_of<T: Threads + Wait + Sync, G: Gate>(
+// The lines of the report of a plan, by running its jobs, up to the last line. The number of polls.
+fn plan_lines<T: Threads + Wait + Sync, G: Gate>(
     rt: &T,
     alloc: Global,
     gate: &G,
@@ -256,7 +256,7 @@ pub(crate) fn run_block<T: Threads + Wait + Sync, G: Gate>(
 {
     let is_last = jobs.len() < BLOCK;
     let plan = head.plan(alloc, jobs)?;
-    let (mut text, more) = lines_of(rt, alloc, gate, plan)?;
+    let (mut text, more) = plan_lines(rt, alloc, gate, plan)?;
     *polls += u128::from(more);
     if is_last {
         append_total(&mut text, *polls)?;

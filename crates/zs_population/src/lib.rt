@@ -13,6 +13,7 @@
 #![tactic(auto)]
 
 mod block;
+mod digest;
 mod fault;
 mod joining;
 mod laws;

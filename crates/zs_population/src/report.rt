@@ -9,9 +9,8 @@ ghost use Rattle.zs_population.specs.declared.range.JobRange.{JobRange};
 
 use crate::fault::ReportFault;
 use crate::lines::Sums;
-use crate::range::JobRange;
+use crate::range::{JobRange, read_range};
 use crate::trailer::{append_origin, append_trailer};
-use crate::words::jobs;
 use memchr::{memchr, memrchr};
 use sha2::{Digest, Sha256};
 use std::alloc::{AllocError, Global};
@@ -48,7 +47,7 @@ fn range_of(trailer: &[u8]) -> Option<JobRange>
 {
     let rest = trailer.strip_prefix(b"{\"jobs\":\"")?;
     let end = memchr(b'"', rest)?;
-    jobs(&rest[..end])
+    read_range(&rest[..end])
 }
 
 // The number of polls in the last line of a report.

@@ -8,11 +8,11 @@ ghost use Rattle.zs_population.specs.Sums.{IsSummed, sums_of};
 ghost use Rattle.zs_population.specs.Tails.{EndFault, EndsReport, StaysAtEnd};
 
 use crate::block::{BLOCK, block_size, read_block, read_first, run_block, skip_lines, write_block};
+use crate::digest::ReportDigest;
 use crate::fault::PopulationFault;
 use crate::lines::{LineReader, Sums};
 use crate::range::JobRange;
 use crate::trailer::append_trailer;
-use sha2::{Digest, Sha256};
 use std::alloc::Global;
 use std::collections::BTreeSet;
 use std::sync::Wait;
@@ -52,18 +52,19 @@ fn read_on<R: Source>(
     }
 }
 
-// Ends the report of a range, which was digested: appends the trailer, if the range is a part. The
-// trailer has the sums of all lines, so the population is read to its end.
+// Ends the report of a range: appends the trailer, if the range is a part. The trailer has the sums
+// of all lines, so the population is read to its end.
 fn end_report<R: Source>(
     alloc: Global,
     range: JobRange,
     reader: &mut R,
     lines: &mut LineReader,
-    digest: &mut Sha256,
+    digest: &mut ReportDigest,
     text: &mut String,
 ) -> Result<(), PopulationFault>
     requires clear { R.mark reader.old ≡ false }
     requires few { range.is_part ≡ true → range.first + range.count ≤ max_population }
+    requires on { digest.old.is_on ≡ range.is_part }
     ensures text { OnOk result (EndsReport range lines.old
         (ahead R.remaining lines.old.buffer reader.old) digest.old text.old text.new) }
     ensures end { OnOk result (StaysAtEnd (ahead R.remaining lines.old.buffer reader.old)
@@ -73,7 +74,7 @@ fn end_report<R: Source>(
 {
     if range.is_part {
         let sums = read_on(alloc, reader, lines)?;
-        append_trailer(text, range, &sums, digest)?;
+        append_trailer(text, range, &sums, &mut digest.hasher)?;
     }
     Ok(())
 }
@@ -98,7 +99,7 @@ fn run_blocks<T: Threads + Wait + Sync, G: Gate, R: Source, W: Drain>(
     let mut polls = 0;
     let mut sent = 0;
     let mut blocks = 0;
-    let mut digest = Sha256::new();
+    let mut digest = ReportDigest::new(part.range.is_part);
     loop {
         let first = part.range.first + blocks * BLOCK as u64;
         let size = block_size(part.range.count, blocks);
@@ -108,7 +109,7 @@ fn run_blocks<T: Threads + Wait + Sync, G: Gate, R: Source, W: Drain>(
             Ok(text) => text,
             Err(fault) => return Err(PopulationFault::Engine(fault)),
         };
-        digest.update(text.as_str());
+        digest.add(text.as_str());
         if is_last {
             end_report(alloc, part.range, reader, lines, &mut digest, &mut text)?;
             write_block(writer, text.as_bytes(), sent)?;

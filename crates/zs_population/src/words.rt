@@ -1,12 +1,9 @@
 //! The request that the words of a command line are.
-ghost use Rattle.std.specs.Prelude.{◌≡◌, IfOk, IfSome, map, string_bytes};
-ghost use Rattle.zs_population.specs.Population.{FitsPopulation};
-ghost use Rattle.zs_population.specs.Words.{FitsRequest, after_dots, jobs_of, option_request, request_of};
+ghost use Rattle.std.specs.Prelude.{◌≡◌, IfOk, map, string_bytes};
+ghost use Rattle.zs_population.specs.Words.{FitsRequest, option_request, request_of};
 
-use crate::block::MAX_POPULATION;
 use crate::fault::OptionFault;
-use crate::range::JobRange;
-use zs_lines::{digits, number};
+use crate::range::{JobRange, read_range};
 
 /// What the program is to do.
 #[derive(Clone, Copy, Debug, PartialEq, Eq)]
@@ -21,40 +18,6 @@ pub(crate) enum Request {
     Join,
 }
 
-// The number that a text is after two dots.
-fn after_dots(text: &[u8]) -> Option<u64>
-    ensures value { result ≡ after_dots text.now }
-{
-    let (first, rest) = text.split_first()?;
-    let (second, rest) = rest.split_first()?;
-    if *first == b'.' && *second == b'.' {
-        number(rest)
-    } else {
-        None
-    }
-}
-
-/// The jobs that a text is, as `5..20`.
-pub(crate) fn jobs(text: &[u8]) -> Option<JobRange>
-    ensures value { result ≡ jobs_of text.now }
-    ensures few { IfSome result FitsPopulation }
-{
-    let (first, count) = digits(text)?;
-    if count == 0 {
-        return None;
-    }
-    let end = after_dots(&text[count..])?;
-    if first <= end && end <= MAX_POPULATION {
-        Some(JobRange {
-            first,
-            count: end - first,
-            is_part: true,
-        })
-    } else {
-        None
-    }
-}
-
 // The request of an option, by its name and its value.
 #[tactic(auto, unfolding(crate::specs::Words::option_request))]
 fn option_request(name: &str, value: &str) -> Result<Request, OptionFault>
@@ -62,7 +25,7 @@ fn option_request(name: &str, value: &str) -> Result<Request, OptionFault>
     ensures few { IfOk result FitsRequest }
 {
     if name == "--jobs" {
-        match jobs(value.as_bytes()) {
+        match read_range(value.as_bytes()) {
             Some(range) => Ok(Request::Run(range)),
             None => Err(OptionFault::Jobs),
         }

@@ -27,8 +27,9 @@ loop-names-init g c =
       polled = omega arith;
       told = omega arith;
       done = done-nothing (head_record c.args.part.now.head).clock c.args.part.now.range.first (prepend_known c.args.lines.now.buffer (g.R.Source.remaining c.args.reader.now))
-          c.new-names.result (g.W.Drain.contents c.args.writer.now) c.new-digest.result known c.new-digest.ensures;
+          c.new-names.result (g.W.Drain.contents c.args.writer.now) c.new-digest.result known c.new-digest.ensures.empty;
       summed = λ all is. is;
+      on = c.new-digest.ensures.on;
       whole = refl;
     }
 
@@ -102,9 +103,9 @@ returns-in_err-write_block g c =
     record {
       ends = λ before after first took skips summed is. rw (p.1, p.2, part.1, c.in_err-write_block.ensures.marks)
           (ends-unwritten-last c.args.part.now.range before after ahead mid first head c.loop-names.names c.loop-names.polls c.loop-names.sent (g.W.Drain.contents c.args.writer.now) (g.W.Drain.contents c.loop-names.writer) c.loop-names.digest took skips is
-          c.loop-names.blocks at.done now left (g.W.Drain.contents c.write_block.new.writer) c.read_block.new.names jobs c.as_str.result.now tail.0 c.as_bytes.result.now c.update.new.self part.0
+          c.loop-names.blocks at.done now left (g.W.Drain.contents c.write_block.new.writer) c.read_block.new.names jobs c.as_str.result.now tail.0 c.as_bytes.result.now c.add.new.self part.0
           (g.R.Source.mark c.end_report.new.reader) (g.W.Drain.flushed c.write_block.new.writer) (c.write_block.new.writer ≡ c.args.writer.now)
-          c.in_ok-jobs.ensures.jobs (omega (arith, many, c.in_ok-jobs.ensures.size, c.block_size-size.ensures.within)) tells adds c.update.ensures
+          c.in_ok-jobs.ensures.jobs (omega (arith, many, c.in_ok-jobs.ensures.size, c.block_size-size.ensures.within)) tells adds c.add.ensures.added
           (λ report holds. tail.2 before report (summed-on before c.args.lines.now c.read_block.new.lines ahead now keeps summed) holds)
           part.2 part.3 (clear-at-ok _ _ _ c.in_ok-end_report.ensures.marks.0));
     }
@@ -134,10 +135,10 @@ returns-then-is_last g c =
     record {
       ends = λ before after first took skips summed is. rw c.in_ok-write_block.ensures.marks
           (ends-well c.args.part.now.range before after ahead mid first head c.loop-names.names c.loop-names.polls c.loop-names.sent (g.W.Drain.contents c.args.writer.now) (g.W.Drain.contents c.loop-names.writer) c.loop-names.digest took skips is
-          c.loop-names.blocks at.done now left (g.W.Drain.contents c.write_block.new.writer) c.read_block.new.names jobs c.as_str.result.now tail.0 c.as_bytes.result.now c.update.new.self
+          c.loop-names.blocks at.done now left (g.W.Drain.contents c.write_block.new.writer) c.read_block.new.names jobs c.as_str.result.now tail.0 c.as_bytes.result.now c.add.new.self
           (g.R.Source.mark c.end_report.new.reader) (g.W.Drain.flushed c.write_block.new.writer) (c.write_block.new.writer ≡ c.args.writer.now) tt
           c.in_ok-jobs.ensures.jobs (omega (arith, many, c.in_ok-jobs.ensures.size, c.block_size-size.ensures.within))
-          (λ less. c.in_ok-jobs.ensures.last (ended less)) c.in_ok-end_report.ensures.end tells adds c.update.ensures
+          (λ less. c.in_ok-jobs.ensures.last (ended less)) c.in_ok-end_report.ensures.end tells adds c.add.ensures.added
           (λ report holds. tail.2 before report (summed-on before c.args.lines.now c.read_block.new.lines ahead now keeps summed) holds)
           c.in_ok-write_block.ensures.written (clear-at-ok _ _ _ c.in_ok-end_report.ensures.marks.0) c.in_ok-write_block.ensures.flushed);
     }
@@ -186,8 +187,9 @@ loop-names-preserved g c =
       polled = omega (arith, at.polled, c.in-Ok.ensures.room);
       told = omega (arith, at.told, c.in_ok-sent.ensures.room);
       done = more-done head.clock c.args.part.now.range.first ahead mid now c.loop-names.names c.read_block.new.names c.loop-names.blocks c.loop-names.polls c.loop-names.sent
-          (g.W.Drain.contents c.args.writer.now) (g.W.Drain.contents c.loop-names.writer) c.loop-names.digest at.done jobs (g.W.Drain.contents c.write_block-in-loop-names.new.writer) c.run_block.new.polls c.in_ok-sent.sent c.update.new.self
-          c.in_ok-jobs.ensures.jobs (many ∙ full) c.in-Ok.ensures.polls (rw text at c.in_ok-sent.ensures.ok) (rw text at c.in_ok-sent.ensures.written) (rw block at c.update.ensures);
+          (g.W.Drain.contents c.args.writer.now) (g.W.Drain.contents c.loop-names.writer) c.loop-names.digest at.done jobs (g.W.Drain.contents c.write_block-in-loop-names.new.writer) c.run_block.new.polls c.in_ok-sent.sent c.add.new.self
+          c.in_ok-jobs.ensures.jobs (many ∙ full) c.in-Ok.ensures.polls (rw text at c.in_ok-sent.ensures.ok) (rw text at c.in_ok-sent.ensures.written) (rw block at c.add.ensures.added);
       summed = λ all is. c.in_ok-jobs.ensures.sums all (at.summed all is);
+      on = c.add.ensures.on ∙ at.on;
       whole = rw (add-one c.loop-names.blocks) c.in_ok-sent.ensures.flushed;
     }

@@ -1,6 +1,6 @@
 use Rattle.std.proofs.Common.{◌∙◌}
 use Rattle.zs_run.proofs.AnswerLemmas.{lines_of_answer, polls_of_answer}
-use Rattle.zs_population.proofs.block.lines_of.Goals as goal
+use Rattle.zs_population.proofs.block.plan_lines.Goals as goal
 
 -- the lines are those of the result, and so those of the jobs
 pub returns : goal.returns
