@@ -7,7 +7,7 @@
 #![tactic(auto)]
 
 use std::env;
-use std::io::IsTerminal;
+use std::io::{ErrorKind, IsTerminal};
 use std::process::ExitCode;
 use std::rt::Env;
 use zs_bounds_lines::{BoundsFault, OptionFault, exit_code, reads_lines, run_words};
@@ -15,23 +15,29 @@ use zs_run::Marked;
 
 const NOTE: &str = "reads policies from a terminal, one a line; Ctrl-D ends them";
 
-// The words after the program's name, if they are text.
-fn words(rt: &(impl Env + AllocGlobal)) -> Option<Vec<String>> {
-    let words = env::args(rt).ok()?;
-    words.skip(1).collect(rt.alloc()).ok()
+// The words after the program's name. Words that aren't text are no options.
+fn words(rt: &(impl Env + AllocGlobal)) -> Result<Vec<String>, BoundsFault> {
+    match env::args(rt) {
+        Ok(words) => words
+            .skip(1)
+            .collect(rt.alloc())
+            .map_err(|_| BoundsFault::Memory),
+        Err(fault) if fault.kind() == ErrorKind::OutOfMemory => Err(BoundsFault::Memory),
+        Err(_) => Err(BoundsFault::Words(OptionFault::Unknown)),
+    }
 }
 
 fn main(rt: HostRuntime) -> ExitCode {
     let mut reader = Marked::new(rt.stdin());
     let mut writer = Marked::new(rt.stdout());
     let ended = match words(&rt) {
-        Some(words) => {
+        Ok(words) => {
             if reads_lines(words.as_slice()) && rt.stdin().is_terminal() {
                 let _ = eprintln!(rt; "zsched-bounds: {NOTE}");
             }
             run_words(rt.alloc(), words.as_slice(), &mut reader, &mut writer)
         }
-        None => Err(BoundsFault::Words(OptionFault::Unknown)),
+        Err(fault) => Err(fault),
     };
     if let Err(fault) = &ended {
         // If standard error fails too, nothing more can be done.
