@@ -48,7 +48,7 @@ static uint64_t retry(const char *policy, uint64_t (*attempt)(void *data), void 
     for (;;) {
         uint64_t code = attempt(data), moment = retry_passed(&begun);
         if (moment <= planned)
-            moment = planned + 1;
+            moment = planned + (planned < UINT64_MAX);
         if (code == 0 ||
             zs_program_step(program, RETRY_WORDS, state, RETRY_WORDS, moment, code, &reply, NULL, 0) != ZS_NEXT)
             return code;

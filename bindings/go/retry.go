@@ -75,13 +75,15 @@ func begun(text string) (follower, error) {
 
 // Retry calls attempt until there is no error or the schedule is done, and sleeps between two
 // attempts. It returns the last error. The input of an error is what inputOf returns, or 0 without
-// one. After a Permanent error it doesn't retry. If the context ends during a sleep, the last error
-// is returned in an *Ended, which is the context's error too. A text that is no schedule is a *Fault.
+// one. After a Permanent error it doesn't retry. If the context ends in an attempt or a sleep, the
+// last error is returned in an *Ended, which is the context's error too. A text that is no schedule is
+// a *Fault.
 //
 // Moments are in milliseconds from the start of the first attempt. The schedule is stepped at the
 // moment when an attempt ended, but at least 1 millisecond after the one that it planned for it, so
-// its Bounds hold of each run. Without Jitter no attempt begins before its planned moment; with it
-// the bounds hold of the moments that the schedule is stepped at, and sleeps are never longer.
+// its Bounds hold of each run. Without Jitter no attempt begins before its planned moment; with it an
+// attempt that begins early counts from that moment on, so the bounds hold as without, and sleeps are
+// never longer.
 func Retry(ctx context.Context, text string, inputOf func(error) uint64,
 	attempt func(context.Context) error, more ...Option) error {
 	if attempt == nil {
@@ -138,6 +140,8 @@ type run struct {
 	attempts int
 	// planned is the moment that the schedule planned for the attempt.
 	planned uint64
+	// early is how early the attempt began, by jitter: it counts as if it began at that moment.
+	early time.Duration
 }
 
 // next steps the schedule after a failed attempt, and sleeps. It returns whether another attempt
@@ -147,12 +151,15 @@ func (run *run) next(ctx context.Context, failure error) (bool, error) {
 	if errors.As(failure, &last) {
 		return false, last.error
 	}
+	if cause := ctx.Err(); cause != nil {
+		return false, &Ended{Last: failure, Cause: cause}
+	}
 	if run.budget != nil && !run.budget.Take() {
 		return false, failure
 	}
 	run.attempts++
 	now := time.Now()
-	passed, input := uint64(now.Sub(run.start).Milliseconds()), uint64(0)
+	passed, input := uint64((now.Sub(run.start) + run.early).Milliseconds()), uint64(0)
 	if passed < run.planned {
 		passed = run.planned
 	}
@@ -160,7 +167,7 @@ func (run *run) next(ctx context.Context, failure error) (bool, error) {
 		input = run.inputOf(failure)
 	}
 	moment := passed
-	if moment == run.planned {
+	if moment == run.planned && moment < math.MaxUint64 {
 		moment++
 	}
 	result, err := run.schedule.After(moment, input)
@@ -170,7 +177,7 @@ func (run *run) next(ctx context.Context, failure error) (bool, error) {
 		}
 		return false, err
 	}
-	until := run.until(now, passed, result.Next, failure)
+	until := run.until(now, moment, result.Next, failure)
 	run.planned = result.Next
 	if run.notify != nil {
 		run.notify(failure, run.attempts, until.Sub(now))
@@ -178,22 +185,28 @@ func (run *run) next(ctx context.Context, failure error) (bool, error) {
 	if !sleep(ctx, until) {
 		return false, &Ended{Last: failure, Cause: ctx.Err()}
 	}
+	if run.early = time.Until(run.start.Add(millis(run.planned))); run.early < 0 {
+		run.early = 0
+	}
 	return true, nil
 }
 
 // until returns when the next attempt begins, which the schedule plans at `next`.
-func (run *run) until(now time.Time, passed, next uint64, failure error) time.Time {
+func (run *run) until(now time.Time, moment, next uint64, failure error) time.Time {
 	until := run.start.Add(millis(next))
 	if run.jitter > 0 {
 		// A share at random, from 0 to 1. Before Go 1.20 math/rand gives all processes the same.
 		random := float64(new(maphash.Hash).Sum64()>>11) / (1 << 53)
 		share := 1 - random*math.Min(run.jitter, 1)
-		until = now.Add(time.Duration(share * float64(millis(next-passed))))
+		until = now.Add(time.Duration(share * float64(millis(next-moment))))
 	}
 	if run.retryAfter != nil {
 		if least := now.Add(run.retryAfter(failure)); until.Before(least) {
 			until = least
 		}
+	}
+	if until.Before(now) {
+		until = now
 	}
 	return until
 }
@@ -223,7 +236,7 @@ func sleep(ctx context.Context, until time.Time) bool {
 	return false
 }
 
-// Ended is the error of a context that ended between two attempts.
+// Ended is the error of a context that ended in an attempt or in a wait.
 type Ended struct {
 	// Last is the error of the last attempt.
 	Last error
@@ -239,6 +252,11 @@ func (ended *Ended) Error() string {
 // Unwrap returns the error of the last attempt.
 func (ended *Ended) Unwrap() error {
 	return ended.Last
+}
+
+// As finds an error of the last attempt, or else of the context.
+func (ended *Ended) As(target any) bool {
+	return errors.As(ended.Last, target) || errors.As(ended.Cause, target)
 }
 
 // Is returns whether the context's error is target, since it is that error too.

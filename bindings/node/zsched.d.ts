@@ -18,6 +18,7 @@ export interface Answer {
  * library's.
  */
 export class Fault extends Error {
+  private constructor();
   readonly number: number;
   readonly at: bigint;
 }
@@ -66,6 +67,7 @@ export function check(text: string | Uint8Array): void;
 
 /** What a schedule does for every input; times in milliseconds. */
 export class Bounds {
+  private constructor();
   /** The number of attempts that were examined. */
   readonly seen: bigint;
   /** The first attempt that can be the last one. */
@@ -114,6 +116,7 @@ export class Budget {
 
 /** The error of a retry whose signal was aborted. Its `cause` is the signal's reason. */
 export class Aborted extends Error {
+  private constructor();
   readonly name: 'AbortError';
   readonly code: 'ABORT_ERR';
   /** The error of the last attempt, or undefined if there was none. */
@@ -158,8 +161,8 @@ export interface RetryOptions {
  *
  * The schedule is stepped at the moment when an attempt ended, but at least 1 millisecond after the
  * one that it planned for it, so its Bounds hold of each run. Without `jitter` no attempt begins
- * before its planned moment; with it the bounds hold of the moments that the schedule is stepped at,
- * and waits are never longer. With `retryAfter` the bounds of waits are those of the schedule alone.
+ * before its planned moment; with it an attempt that begins early counts from that moment on, so the
+ * bounds hold as without, and waits are never longer. With `retryAfter` the bounds of waits are those of the schedule alone.
  */
 export function retry<T>(
   text: string,

@@ -63,6 +63,9 @@ class Budget {
   #tokens;
 
   constructor(tokens = 10, ratio = 0.1) {
+    if (!(Number.isFinite(tokens) && tokens > 0 && Number.isFinite(ratio) && ratio >= 0)) {
+      throw new RangeError(`zsched: a budget of ${tokens} tokens and the ratio ${ratio}`);
+    }
     this.#most = tokens;
     this.#ratio = ratio;
     this.#tokens = tokens;
@@ -265,7 +268,7 @@ async function sleep(until, signal) {
   let rest = until - process.hrtime.bigint();
   do {
     await new Promise((resolve) => {
-      if (rest <= 0n) {
+      if (rest <= 0n || signal?.aborted) {
         setImmediate(resolve);
         return;
       }
@@ -281,28 +284,33 @@ async function sleep(until, signal) {
   } while (rest > 0n && !signal?.aborted);
 }
 
-/** Makes the step of an error, or throws the error with its `notTriedAgain`. */
-function stepAfter(schedule, now, error, inputOf) {
+/** Returns what hooks find for an error, or null if they fail: the error then has a `notTriedAgain`. */
+function planAfter(error, hooks) {
   try {
-    return schedule.after(now, BigInt(inputOf(error)));
+    return hooks();
   } catch (fault) {
     if (fault instanceof Fault) {
       throw fault;
     }
-    if (error instanceof Error) {
+    if (error instanceof Error && Object.isExtensible(error)) {
       error.notTriedAgain = fault;
     }
-    throw error;
+    return null;
   }
 }
 
-/** When the next attempt begins, in nanoseconds of the clock. The schedule plans it at `next`. */
-function begin(start, now, passed, next, error, { jitter = 0, retryAfter }) {
+/** When the next attempt begins, in nanoseconds of the clock. The schedule was stepped at `moment` and plans it at `next`. */
+function begin(start, now, moment, next, error, { jitter = 0, retryAfter }) {
   let until = start + next * 1000000n;
   if (jitter > 0) {
-    until = now + BigInt(Math.round(Number(next - passed) * 1e6 * (1 - Math.min(jitter, 1) * Math.random())));
+    const early = now + BigInt(Math.round(Number(next - moment) * 1e6 * (1 - jitter * Math.random())));
+    until = early < until ? early : until;
   }
-  const least = now + BigInt(Math.ceil((retryAfter?.(error) ?? 0) * 1e6));
+  const millis = retryAfter?.(error) ?? 0;
+  if (typeof millis !== 'number' || !Number.isFinite(millis)) {
+    throw new TypeError(`zsched: retryAfter returned ${String(millis)}, which is no number of milliseconds`);
+  }
+  const least = now + BigInt(Math.ceil(millis * 1e6));
   return until > least ? until : least;
 }
 
@@ -322,10 +330,18 @@ async function outcome(attempt, number, signal) {
 }
 
 async function retry(text, attempt, options = {}) {
-  const { inputOf = () => 0, shouldRetry = () => true, onFailedAttempt = () => {}, signal, budget } = options;
+  const { inputOf = () => 0, shouldRetry = () => true, onFailedAttempt = () => {}, signal, budget, jitter = 0 } = options;
+  if (typeof attempt !== 'function') {
+    throw new TypeError('zsched: the attempt is no function');
+  }
+  if (!(jitter >= 0 && jitter <= 1)) {
+    throw new RangeError(`zsched: a jitter of ${jitter} is not from 0 to 1`);
+  }
   const schedule = begun(text);
   const start = process.hrtime.bigint();
   let planned = 0n;
+  // How early the attempt began, in nanoseconds: it counts as if it began at its planned moment.
+  let early = 0n;
   let error;
   for (let number = 1; ; number += 1) {
     throwIfAborted(signal, error);
@@ -334,22 +350,38 @@ async function retry(text, attempt, options = {}) {
       budget?.add();
       return ended.value;
     }
+    const before = error;
     error = ended.error;
+    if (signal?.aborted && (error === signal.reason || error?.name === 'AbortError')) {
+      error = before ?? error;
+    }
     const now = process.hrtime.bigint();
-    const millis = (now - start) / 1000000n;
-    const passed = millis > planned ? millis : planned;
+    const millis = (now - start + early) / 1000000n;
+    const moment = millis > planned ? millis : planned + 1n;
     const again = !signal?.aborted && await shouldRetry({ error, number }) && (budget?.take() ?? true);
-    const result = again ? stepAfter(schedule, passed > planned ? passed : planned + 1n, error, inputOf) : { done: true };
-    if (result.done) {
+    const until = again ? planAfter(error, () => {
+      const input = inputOf(error);
+      if (typeof input !== 'number' && typeof input !== 'bigint') {
+        throw new TypeError(`zsched: inputOf returned ${typeof input}, which is no whole number`);
+      }
+      const result = schedule.after(moment, input);
+      planned = result.next;
+      return result.done ? null : begin(start, now, moment, planned, error, options);
+    }) : null;
+    if (until === null) {
       await onFailedAttempt({ error, number, wait: null });
       throwIfAborted(signal, error);
       throw error;
     }
-    planned = result.next;
-    const until = begin(start, now, passed, planned, error, options);
     await onFailedAttempt({ error, number, wait: Number(until - now) / 1e6 });
     await sleep(until, signal);
+    early = start + planned * 1000000n - process.hrtime.bigint();
+    early = early > 0n ? early : 0n;
   }
 }
 
-module.exports = { Aborted, Bounds, Budget, Fault, Schedule, Stepper, bounds, check, retry, version: () => calls.version() };
+function version() {
+  return calls.version();
+}
+
+module.exports = { Aborted, Bounds, Budget, Fault, Schedule, Stepper, bounds, check, retry, version };

@@ -1,6 +1,7 @@
 package zsched;
 
 import java.time.Duration;
+import java.util.Objects;
 import java.util.concurrent.Callable;
 import java.util.concurrent.CompletableFuture;
 import java.util.concurrent.CompletionException;
@@ -24,9 +25,9 @@ import java.util.function.ToLongFunction;
  * <p>Moments are in milliseconds from the start of the first attempt. The schedule is stepped at the
  * moment when an attempt ended, but at least 1 millisecond after the one that it planned for it, so
  * its {@link Schedule#bounds} hold of each run. Without {@link #jitter} no attempt begins before its
- * planned moment; with it the bounds hold of the moments that the schedule is stepped at, and waits
- * are never longer. Time and memory don't grow with the number of attempts, except for a schedule
- * with collectAll, whose output grows.
+ * planned moment; with it an attempt that begins early counts from that moment on, so the bounds hold
+ * as without, and waits are never longer. Time and memory don't grow with the number of attempts,
+ * except for a schedule with collectAll, whose output grows.
  *
  * <p>What a function or listener of {@link #inputOf}, {@link #on}, {@link #onFailure} or
  * {@link #retryAfter} throws ends the retry: the attempt's error is thrown, which suppresses it.
@@ -159,8 +160,10 @@ public final class Retry {
      * suppresses the last error. Throws IllegalArgumentException if the value is a future.
      */
     public <T> T call(Callable<T> attempt) throws Exception {
+        Objects.requireNonNull(attempt, "attempt");
         Run run = new Run();
         while (true) {
+            run.begin();
             T value = null;
             Exception error = null;
             try {
@@ -182,12 +185,16 @@ public final class Retry {
     /**
      * Starts an attempt until one completes with a value or the schedule is done, and completes the
      * future with the value or the last error. A {@link CompletionException} counts as its cause. It
-     * blocks no thread. If the future is cancelled, or completed otherwise, no attempt follows. If the
-     * supplier returns null, the future completes with a NullPointerException.
+     * blocks no thread. If the future is cancelled, or completed otherwise, the attempt or the wait is
+     * cancelled, and none follows. If the supplier returns null, the future completes with a
+     * NullPointerException.
      */
     public <T> CompletableFuture<T> callAsync(Supplier<? extends CompletionStage<T>> attempt, ScheduledExecutorService scheduler) {
+        Objects.requireNonNull(attempt, "attempt");
         CompletableFuture<T> ended = new CompletableFuture<>();
-        start(new Run(), attempt, scheduler, ended);
+        Run run = new Run();
+        start(run, attempt, scheduler, ended);
+        ended.whenComplete((value, error) -> run.stop());
         return ended;
     }
 
@@ -196,6 +203,7 @@ public final class Retry {
         if (ended.isDone()) {
             return;
         }
+        run.begin();
         CompletionStage<T> started;
         try {
             started = attempt.get();
@@ -206,17 +214,23 @@ public final class Retry {
             ended.completeExceptionally(new NullPointerException("zsched: the attempt returned null in place of a CompletionStage"));
             return;
         }
+        if (started instanceof Future<?> future) {
+            run.follow(future, ended);
+        }
         started.whenComplete((value, thrown) -> {
+            if (ended.isDone()) {
+                return;
+            }
             Throwable error = thrown instanceof CompletionException && thrown.getCause() != null ? thrown.getCause() : thrown;
             try {
-                if (error instanceof Error) {
+                if (error != null && !(error instanceof Exception)) {
                     throw error;
                 }
                 long nanos = run.delayAfter(value, (Exception) error);
                 if (nanos < 0) {
                     ended.complete(value);
                 } else {
-                    scheduler.schedule(() -> start(run, attempt, scheduler, ended), nanos, TimeUnit.NANOSECONDS);
+                    run.follow(scheduler.schedule(() -> start(run, attempt, scheduler, ended), nanos, TimeUnit.NANOSECONDS), ended);
                 }
             } catch (Throwable last) {
                 if (error != null && last != error) {
@@ -235,6 +249,29 @@ public final class Retry {
         private long now;
         private long number;
         private long planned;
+        private long early;
+        private volatile Future<?> pending;
+
+        /** Notes how early an attempt begins: it counts as if it began at its planned moment. */
+        void begin() {
+            early = Math.max(0, nanos(planned) - (clock.getAsLong() - start));
+        }
+
+        /** Notes what ends if the retry's future is cancelled: an attempt, or a wait. */
+        void follow(Future<?> next, CompletableFuture<?> ended) {
+            pending = next;
+            if (ended.isDone()) {
+                next.cancel(true);
+            }
+        }
+
+        /** Cancels it. */
+        void stop() {
+            Future<?> last = pending;
+            if (last != null) {
+                last.cancel(true);
+            }
+        }
 
         /**
          * Ends an attempt that returned a value, or threw. Returns the nanoseconds from now to the
@@ -268,22 +305,24 @@ public final class Retry {
         /** Steps the schedule. Returns the nanoseconds from now to the next attempt, or -1 if there is none. */
         private long plan() {
             now = clock.getAsLong();
-            long passed = Math.max((now - start) / 1_000_000, planned);
+            long elapsed = (now - start + Math.min(early, Long.MAX_VALUE - (now - start))) / 1_000_000;
+            long first = planned == -1 ? planned : planned + 1;
+            long moment = Long.compareUnsigned(elapsed, first) > 0 ? elapsed : first;
             boolean isRetried = error instanceof BadResult || !(error instanceof InterruptedException) && isWanted.test(error);
             if (!isRetried || budget != null && !budget.take()) {
                 return -1;
             }
-            Schedule.Answer result = schedule.after(Math.max(passed, planned + 1), inputOf.applyAsLong(error));
+            Schedule.Answer result = schedule.after(moment, inputOf.applyAsLong(error));
             if (result.done()) {
                 return -1;
             }
             long nanos = nanos(result.next()) - (now - start);
             if (jitter > 0) {
-                nanos = (long) (nanos(result.next() - passed) * (1 - jitter * ThreadLocalRandom.current().nextDouble()));
+                nanos = Math.min(nanos, (long) (nanos(result.next() - moment) * (1 - jitter * ThreadLocalRandom.current().nextDouble())));
             }
             Duration least = retryAfter.apply(error);
             planned = result.next();
-            return Math.max(Math.max(nanos, 0), least == null ? 0 : least.toNanos());
+            return Math.max(Math.max(nanos, 0), least == null ? 0 : TimeUnit.NANOSECONDS.convert(least));
         }
 
         /** Sleeps these nanoseconds from the last step. */

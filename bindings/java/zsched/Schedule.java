@@ -63,12 +63,13 @@ public final class Schedule {
         /** Returns whether there are at most {@code most} attempts, and so much wait in all. */
         public boolean within(long most, Duration total) {
             return this.most.isPresent() && Long.compareUnsigned(this.most.getAsLong(), most) <= 0 && this.total.isPresent()
-                && Long.compareUnsigned(this.total.getAsLong(), total.toMillis()) <= 0;
+                && Long.compareUnsigned(this.total.getAsLong(), total.toMillis()) <= 0 && !total.isNegative();
         }
 
         /** Returns whether each call ends within {@code run}, attempts and waits together. */
         public boolean endsWithin(Duration run) {
-            return longestRun.isPresent() && Long.compareUnsigned(longestRun.getAsLong(), run.toMillis()) <= 0;
+            return !run.isNegative() && longestRun.isPresent()
+                && Long.compareUnsigned(longestRun.getAsLong(), run.toMillis()) <= 0;
         }
     }
 
@@ -173,7 +174,7 @@ public final class Schedule {
     /** Does the same if each attempt takes {@code least} to {@code most}; null is no such limit. */
     public static Bounds bounds(String text, long steps, Duration least, Duration most) {
         byte[] bytes = text.getBytes(StandardCharsets.UTF_8);
-        long[] durations = most == null ? new long[] {least.toMillis(), 0, 0} : new long[] {least.toMillis(), 1, most.toMillis()};
+        long[] durations = most == null ? new long[] {least.toMillis(), 0, 0} : new long[] {least.toMillis(), 1, most.plusNanos(999_999).toMillis()};
         long[] found = new long[9];
         long[] at = new long[1];
         refuse(CALLS.zs_bounds(bytes, bytes.length, durations, steps, found, at), at[0]);

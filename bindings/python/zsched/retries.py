@@ -1,6 +1,7 @@
 """Retries that really sleep."""
 import asyncio
 import collections.abc
+import contextlib
 import dataclasses
 import functools
 import inspect
@@ -15,7 +16,8 @@ from .budgets import Budget
 from .schedules import Schedule, Stepper, begun, check
 
 LONGEST = threading.TIMEOUT_MAX
-GENERATORS = (types.GeneratorType, types.AsyncGeneratorType)
+GENERATORS = (types.GeneratorType, types.AsyncGeneratorType, contextlib._GeneratorContextManager,
+              contextlib._AsyncGeneratorContextManager)
 T = typing.TypeVar("T")
 
 
@@ -27,7 +29,12 @@ class Statistics:
     retries: int = 0
     given_up: int = 0
     slept: float = 0.0
-    _lock: typing.Any = dataclasses.field(default_factory=threading.Lock, repr=False, compare=False)
+
+    def __post_init__(self) -> None:
+        self._lock = threading.Lock()
+
+    def __reduce__(self) -> tuple[typing.Any, ...]:
+        return type(self), (self.calls, self.retries, self.given_up, self.slept)
 
     def add_call(self) -> None:
         """Counts a call; threads may add at once."""
@@ -70,7 +77,7 @@ class Run:
     # It is made after the first error. Most calls have none, and set nothing of this.
     schedule: Schedule | Stepper | None = None
     attempts = planned = 0
-    until = wait = 0.0
+    until = wait = early = 0.0
     is_over = False
 
     def __init__(self, by: "Retrying") -> None:
@@ -106,25 +113,39 @@ class Run:
                 if inspect.iscoroutine(late):
                     late.close()
                 raise TypeError(f"zsched: {self.by.sleep!r} sleeps asynchronously, and the function or loop is not asynchronous")
-            return
-        while (rest := self.until - self.by.clock()) > 0:
-            time.sleep(rest)
+        else:
+            while (rest := self.until - self.by.clock()) > 0:
+                time.sleep(rest)
+        self.note_begin()
 
     async def sleep_asynchronously(self) -> None:
         """The same, for a coroutine. Other tasks run in any case."""
         if self.by.sleep is not None:
             await self.by.sleep(self.wait)
-            return
-        rest = self.until - self.by.clock()
-        await asyncio.sleep(max(0.0, rest))
-        while (rest := self.until - self.by.clock()) > 0:
-            await asyncio.sleep(rest)
+        else:
+            await asyncio.sleep(max(0.0, self.until - self.by.clock()))
+            while (rest := self.until - self.by.clock()) > 0:
+                await asyncio.sleep(rest)
+        self.note_begin()
+
+    def note_begin(self) -> None:
+        """Notes how early the next attempt begins. It counts as if it began at its planned moment."""
+        self.early = max(0.0, self.start + self.planned / 1000 - self.by.clock())
 
     def begin(self) -> Attempt:
         """Returns the next attempt."""
         self.attempts += 1
         self.is_over = True
         return Attempt(self)
+
+    def call_hook(self, name: str, *words: typing.Any) -> typing.Any:
+        """Returns what a hook returns. Raises TypeError for an awaitable, which nothing awaits."""
+        result = getattr(self.by, name)(*words)
+        if hasattr(type(result), "__await__"):
+            if inspect.iscoroutine(result):
+                result.close()
+            raise TypeError(f"zsched: {name} returns an awaitable, which would not be awaited")
+        return result
 
     def input_of(self, failure: typing.Any) -> int | None:
         """Returns the input of an error or result. If there is none, adds a note to the error and returns None; if it has no
@@ -136,11 +157,29 @@ class Run:
             code, why = -1, f"returned no whole number: {fault!r}"
         if 0 <= code < 2 ** 64:
             return code
-        note = f"zsched: not tried again, since input_of {why}"
-        if not isinstance(failure, BaseException):
-            raise ValueError(note)
-        failure.add_note(note)
+        self.note(failure, f"input_of {why}")
         return None
+
+    def least_of(self, failure: typing.Any) -> float | None:
+        """Returns the least seconds to sleep after an error or result. If there are none, the same as input_of."""
+        if self.by.retry_after is None:
+            return 0.0
+        try:
+            least = self.by.retry_after(failure)
+            seconds = 0.0 if least is None else 0.0 + least
+            if seconds == seconds:
+                return seconds
+            why = "nan"
+        except Exception as fault:
+            why = f"no number of seconds: {fault!r}"
+        self.note(failure, f"retry_after returned {why}")
+        return None
+
+    def note(self, failure: typing.Any, why: str) -> None:
+        """Adds to an error why it isn't retried; if it is none, raises ValueError."""
+        if not isinstance(failure, BaseException):
+            raise ValueError(f"zsched: not tried again, since {why}")
+        failure.add_note(f"zsched: not tried again, since {why}")
 
     def is_retried(self, error: BaseException | None) -> bool:
         """Ends an attempt. Returns whether its error is suppressed and another attempt follows."""
@@ -151,7 +190,7 @@ class Run:
 
     def is_rejected(self, result: typing.Any) -> bool:
         """Ends an attempt. Returns whether another one follows in place of its result."""
-        if self.by.retry_on_result is not None and self.by.retry_on_result(result):
+        if self.by.retry_on_result is not None and self.call_hook("retry_on_result", result):
             return self.goes_on(result)
         if self.by.budget is not None:
             self.by.budget.add()
@@ -159,36 +198,36 @@ class Run:
 
     def goes_on(self, failure: typing.Any) -> bool:
         """Steps the schedule by an error, or a result that counts as one. Returns whether another attempt follows."""
-        code = self.input_of(failure)
-        if code is None:
+        code, least = self.input_of(failure), self.least_of(failure)
+        if code is None or least is None:
             return False
         if self.schedule is None:
             self.schedule = begun(self.by.schedule)
         # The attempt counts as 1 millisecond at least, even if the clock is set back or its sleep ended early.
         now = self.by.clock()
-        passed = max(int((now - self.start) * 1000), self.planned)
+        # In whole nanoseconds, since 0.005 seconds of a clock's floats may be a little less than 5 milliseconds.
+        passed = max(round((now - self.start + self.early) * 1e9) // 1_000_000, self.planned)
         following = None
         if self.by.budget is None or self.by.budget.take():
-            following = self.schedule.after(max(passed, self.planned + 1), code).next
+            following = self.schedule.after(min(max(passed, self.planned + 1), 2 ** 64 - 1), code).next
         if following is None:
             self.by.statistics.add(given_up=1)
             if self.by.on_give_up is not None:
-                self.by.on_give_up(failure, self.attempts)
+                self.call_hook("on_give_up", failure, self.attempts)
             return False
-        self.plan(failure, now, passed, following)
+        self.plan(failure, now, passed, following, least)
         self.by.statistics.add(retries=1, slept=self.wait)
         if self.by.before_sleep is not None:
-            self.by.before_sleep(failure, self.attempts, self.wait)
+            self.call_hook("before_sleep", failure, self.attempts, self.wait)
         return True
 
-    def plan(self, failure: typing.Any, now: float, passed: int, following: int) -> None:
+    def plan(self, failure: typing.Any, now: float, passed: int, following: int, least: float) -> None:
         """Plans the next attempt, which may begin at the millisecond `following`."""
         wait, until = (following - passed) / 1000, self.start + following / 1000
         if self.by.jitter:
-            wait *= 1 - self.by.jitter * random.random()
-            until = now + wait
-        if self.by.retry_after is not None and (least := self.by.retry_after(failure)) is not None:
-            wait, until = max(wait, least), max(until, now + least)
+            wait = (following - max(passed, self.planned + 1)) / 1000 * (1 - self.by.jitter * random.random())
+            until = min(until, now + wait)
+        wait, until = max(wait, least), max(until, now + least)
         self.wait, self.until, self.planned, self.is_over = wait, until, following, False
         if self.by.sleep is None and wait > LONGEST:
             raise OverflowError(f"zsched: the next attempt is {wait:.0f} seconds away, and the longest wait is {LONGEST:.0f}"
@@ -225,11 +264,12 @@ class Retrying:
 
     The schedule's moments are whole milliseconds from the start of the first attempt. It is stepped
     when an attempt ended, but at least 1 millisecond after the moment that it planned for the
-    attempt, so its Bounds hold of each run; with jitter, or a sleep that ends early, they hold of the
-    moments that it is stepped at. With retry_after the bounds of waits are those of the schedule
-    alone. Time and memory don't grow with the number of attempts, except for a schedule with
-    collectAll, whose output grows. Raises ScheduleFault if the text is no schedule. Without `sleep`,
-    a wait that is longer than threading.TIMEOUT_MAX seconds raises OverflowError.
+    attempt, so its Bounds hold of each run. With jitter, or a sleep that ends early, an attempt
+    that begins early counts from its planned moment on, so they hold as without. With retry_after
+    the bounds of waits are those of the schedule alone. Time and memory don't grow with the number
+    of attempts, except for a schedule with collectAll, whose output grows. Raises ScheduleFault if
+    the text is no schedule. Without `sleep`, a wait that is longer than threading.TIMEOUT_MAX
+    seconds raises OverflowError.
 
     A decorated function has `statistics`, and `with_(schedule=..)`, which returns it with other
     options. Many calls may use one at the same time."""
@@ -251,6 +291,7 @@ class Retrying:
     def __post_init__(self) -> None:
         object.__setattr__(self, "schedule", self.schedule if isinstance(self.schedule, str) else self.schedule.text)
         check(self.schedule)
+        issubclass(Exception, self.on)
         if not 0 <= self.jitter <= 1:
             raise ValueError(f"zsched: a jitter of {self.jitter} is not from 0 to 1")
         for name in ["input_of", "retry_on_result", "before_sleep", "on_give_up", "retry_after", "clock"]:
@@ -278,6 +319,10 @@ class Retrying:
         """Returns the function, or coroutine function, with retries as the schedule says.
 
         Raises TypeError for a generator function, whose body runs after the call."""
+        if isinstance(function, (classmethod, staticmethod)):
+            return typing.cast(T, type(function)(self(function.__func__)))
+        if not callable(function):
+            raise TypeError(f"zsched: {function!r} is no function")
         if inspect.isgeneratorfunction(function) or inspect.isasyncgenfunction(function):
             raise _no_generator(function)
         by = self.with_()
@@ -326,7 +371,7 @@ def _asynchronous(by: Retrying, function: typing.Any) -> typing.Any:
     async def tried(*arguments: typing.Any, **named: typing.Any) -> typing.Any:
         run = Run(by)
         run.attempts = 1
-        return await _awaited(run, function, arguments, named, function(*arguments, **named))
+        return await _awaited(run, function, arguments, named, None)
     return tried
 
 
@@ -334,7 +379,9 @@ async def _awaited(run: Run, function: typing.Any, arguments: typing.Any, named:
     """Awaits an attempt that has begun, and those that follow."""
     while True:
         try:
-            result = await (begun if begun is not None else function(*arguments, **named))
+            result = begun if begun is not None else function(*arguments, **named)
+            if hasattr(type(result), "__await__"):
+                result = await result
         except Exception as error:
             if not run.is_retried(error):
                 raise

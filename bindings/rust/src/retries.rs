@@ -16,6 +16,18 @@ pub enum Failed<E> {
 }
 
 impl<E> Failed<E> {
+    /// Returns the error of the last attempt, or the fault as such an error. So
+    /// `retry(..).map_err(Failed::into_error)?` also goes where `E` is no `Error`, as `Box<dyn Error>`.
+    pub fn into_error(self) -> E
+    where
+        E: From<Fault>,
+    {
+        match self {
+            Failed::Schedule(fault) => fault.into(),
+            Failed::Attempt(error) => error,
+        }
+    }
+
     /// Returns the error of the last attempt, if there was one.
     pub fn into_last(self) -> Option<E> {
         match self {
@@ -119,7 +131,8 @@ type Notify<'a, E> = Box<dyn Fn(&E, u64, Duration) + Send + Sync + 'a>;
 /// Moments are in milliseconds from the start of the first attempt. The schedule is stepped at the
 /// moment when an attempt ended, but at least 1 millisecond after the one that it planned for it, so
 /// its `bounds` hold of each run. Without a jitter no attempt begins before its planned moment; with
-/// it the bounds hold of the moments that the schedule is stepped at, and sleeps are never longer.
+/// it an attempt that begins early counts from that moment on, so the bounds hold as without, and
+/// sleeps are never longer.
 /// Time and memory don't grow with the number of attempts, except for a schedule with `collectAll`,
 /// whose output grows.
 ///
@@ -220,6 +233,7 @@ impl<'a, E> Retry<'a, E> {
                 Ok(value) => return Ok(run.succeed(value)),
                 Err(error) => sleep(run.sleep_after(now(), error)?),
             }
+            run.begin(now());
         }
     }
 
@@ -236,6 +250,7 @@ impl<'a, E> Retry<'a, E> {
                 Err(error) => run.sleep_after(start.elapsed(), error)?,
             };
             sleep(wait).await;
+            run.begin(start.elapsed());
         }
     }
 }
@@ -246,11 +261,17 @@ struct Run<'r, 'a, E> {
     schedule: Follower,
     attempts: u64,
     planned: u64,
+    early: Duration,
 }
 
 impl<'r, 'a, E> Run<'r, 'a, E> {
     fn new(of: &'r Retry<'a, E>) -> Result<Self, Fault> {
-        Ok(Run { of, schedule: Follower::new(of.text)?, attempts: 0, planned: 0 })
+        Ok(Run { of, schedule: Follower::new(of.text)?, attempts: 0, planned: 0, early: Duration::ZERO })
+    }
+
+    /// Notes how early an attempt begins: it counts as if it began at its planned moment.
+    fn begin(&mut self, now: Duration) {
+        self.early = Duration::from_millis(self.planned).saturating_sub(now);
     }
 
     /// Returns the value of an attempt that didn't fail.
@@ -265,6 +286,7 @@ impl<'r, 'a, E> Run<'r, 'a, E> {
     /// or the error.
     fn sleep_after(&mut self, now: Duration, error: E) -> Result<Duration, Failed<E>> {
         self.attempts += 1;
+        let now = now.saturating_add(self.early);
         let moment = (now.as_millis() as u64).max(self.planned.saturating_add(1));
         if !(self.of.when)(&error) || self.of.budget.is_some_and(|it| !it.take()) {
             return Err(Failed::Attempt(error));
@@ -275,7 +297,7 @@ impl<'r, 'a, E> Run<'r, 'a, E> {
         let passed = now.max(Duration::from_millis(self.planned));
         let mut wait = Duration::from_millis(next).saturating_sub(passed);
         if self.of.jitter > 0.0 {
-            wait = wait.mul_f64(1.0 - self.of.jitter * random());
+            wait = wait.min(Duration::from_millis(next - moment).mul_f64(1.0 - self.of.jitter * random()));
         }
         wait = wait.max((self.of.retry_after)(&error).unwrap_or_default());
         self.planned = next;
