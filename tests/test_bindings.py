@@ -197,7 +197,7 @@ def test_the_example_in_go_waits_for_its_server_and_its_tests_pass(library, tmp_
     # Go's tests lie in the folder of what they test.
     shutil.copy(CLIENTS / "only_in_go_test.go", folder)
     ran(["go", "vet", "./..."], folder, **variables)
-    assert ran(["go", "test", "-v", "."], folder, **variables).count("--- PASS: ") == 4
+    assert ran(["go", "test", "-v", "."], folder, **variables).count("--- PASS: ") == 8
     ran(["go", "build", "-o", tmp_path / "example", "./example"], folder, **variables)
     assert ran(["./example"], tmp_path, LD_LIBRARY_PATH=library) == READY
 
@@ -207,7 +207,7 @@ def test_the_example_in_node_waits_for_its_server_and_its_tests_pass(library, tm
     addon = {"ZSCHED_NODE": tmp_path / "node_modules/zsched/zsched.node"}
     assert ran(["node", BINDINGS / "node" / "example.js"], tmp_path, **addon) == READY
     shutil.copy(CLIENTS / "only_in_node.test.js", tmp_path)
-    assert "# pass 7\n" in ran(["node", "--test", "only_in_node.test.js"], tmp_path)
+    assert "# pass 12\n" in ran(["node", "--test", "only_in_node.test.js"], tmp_path)
 
 
 def crate(library, tmp_path):
@@ -224,7 +224,7 @@ def test_the_example_in_rust_waits_for_its_server_and_its_tests_pass(library, tm
     folder, variables = crate(library, tmp_path)
     cargo = ["cargo", "--quiet", "--offline"]
     assert ran([*cargo, "run", "--example", "retry"], folder, **variables) == READY
-    assert re.findall(r"\d+ passed", ran([*cargo, "test"], folder, **variables)) == ["0 passed", "7 passed", "6 passed"]
+    assert re.findall(r"\d+ passed", ran([*cargo, "test"], folder, **variables)) == ["0 passed", "9 passed", "6 passed"]
     ran([*cargo, "check", "--no-default-features"], folder, **variables)
 
 

@@ -49,7 +49,7 @@ def test_a_package_names_the_repository_in_which_it_is(name, form):
 def test_a_program_has_the_types_of_the_package_for_node(tmp_path):
     need("tsc")
     declared, program = [shutil.copy(it, tmp_path / it.name) for it in [BINDINGS / "node/zsched.d.ts", CLIENTS / "typed.ts"]]
-    names = {*re.findall(r"^(?:export \w+ |  (?:readonly |get )?)(\w+).*[^,]$", declared.read_text(), re.M)} - {"constructor"}
+    names = {*re.findall(r"^(?:export \w+ |  (?:readonly |get )?)(\w+).*[^,]$", declared.read_text(), re.M)} - {"constructor", "private"}
     assert len(names) > 40 and names <= set(re.findall(r"\w+", program.read_text()))
     ran(["tsc", "--noEmit", "--strict", "--target", "es2020", "--lib", "es2020,dom", program], tmp_path)
 

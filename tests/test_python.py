@@ -2,8 +2,10 @@
 import asyncio
 import concurrent.futures
 import contextlib
+import dataclasses
 import functools
 import http.server
+import math
 import os
 import pickle
 import re
@@ -249,8 +251,14 @@ async def late(*_):
     (lambda by: asyncio.run(by("recurs(1)")(late)()), "late returns a generator"),
     (lambda by: by("recurs(1)", sleep=late)(Clock().failing(1))(), "function late at .* sleeps asynchronously"),
     (lambda by: iter(by("recurs(1)", retry_on_result=bool)), "a loop has no result"),
+    (lambda by: by("recurs(1)")(contextlib.contextmanager(generator))(), "generator returns a generator"),
+    (lambda by: by("recurs(1)")(7), "7 is no function"),
+    (lambda by: by("recurs(1)", on=len), "issubclass"),
     *[(lambda by, name=name: by("recurs(1)", **{name: late}), f"{name} is a coroutine function")
-      for name in ["input_of", "retry_on_result", "before_sleep", "on_give_up", "retry_after"]]])
+      for name in ["input_of", "retry_on_result", "before_sleep", "on_give_up", "retry_after"]],
+    *[(lambda by, name=name, text=text: by(text, **{name: lambda *_: late()})(Clock().failing(1))(), f"{name} returns an aw")
+      for name, text in [("before_sleep", "recurs(1)"), ("on_give_up", "recurs(0)")]],
+    (lambda by: by("recurs(1)", retry_on_result=lambda _: late())(int)(), "retry_on_result returns an awaitable")])
 def test_what_would_be_tried_once_or_never_awaited_is_an_error(retrying, tried, named):
     with pytest.raises(TypeError, match=named):
         tried(retrying)
@@ -270,6 +278,29 @@ def test_a_result_may_count_as_an_error(retrying, clock, is_late):
     assert said == [(503, 1, 0.011), (503, 2, 0.011), (429, 3)] and clock.slept == [0.011] * 2
     with pytest.raises(ValueError, match="input_of returned no whole number"):
         retrying("recurs(3)", retry_on_result=bool, input_of=str)(lambda: 7)()
+
+
+@pytest.mark.parametrize("jitter", [0.5, 1])
+@pytest.mark.parametrize("form", ["function", "coroutine", "loop"])
+def test_an_attempt_that_begins_early_counts_from_its_planned_moment(zsched, retrying, clock, form, jitter):
+    text, effect, attempts = "(spaced(20) && elapsed).whileOutput(_2 < 2000)", clock.failing(999), []
+    by = retrying(text, jitter=jitter, **({"sleep": clock.sleep_async} if form == "coroutine" else {}))
+
+    def attempt():
+        attempts.append(1)
+        return effect()
+
+    async def late():
+        return attempt()
+    with pytest.raises(OSError):
+        if form == "loop":
+            for it in by:
+                with it:
+                    attempt()
+        else:
+            asyncio.run(by(late)()) if form == "coroutine" else by(attempt)()
+    bounds = zsched.bounds(text, 1000, attempt=(5, None))
+    assert bounds.least <= len(attempts) <= bounds.most < zsched.bounds(text, 1000).most and clock.seconds < 102
 
 
 def test_statistics_are_of_all_calls_and_options_can_be_others(retrying, clock):
@@ -296,6 +327,56 @@ def test_an_input_that_is_no_number_hides_no_error(retrying, clock, input_of, no
     with pytest.raises(OSError, match="^9 left$") as caught:
         retrying("spaced(1)", input_of=input_of)(clock.failing(10))()
     assert note in caught.value.__notes__[0] and clock.slept == []
+
+
+@pytest.mark.parametrize("retry_after, note", [
+    *[(lambda error, found=found: found, "zsched: not tried again") for found in ["1", math.nan, [1]]],
+    (lambda error: error.headers, "has no attribute 'headers'")])
+def test_a_least_sleep_that_is_no_number_hides_no_error(retrying, clock, retry_after, note):
+    with pytest.raises(OSError, match="^9 left$") as caught:
+        retrying("spaced(1)", retry_after=retry_after)(clock.failing(10))()
+    assert note in caught.value.__notes__[0] and clock.slept == []
+
+
+def test_methods_of_a_class_are_tried_whatever_decorates_them(retrying, clock):
+    class Service:
+        failing, other = clock.failing(2), clock.failing(2)
+
+        @retrying("recurs(2)")
+        @classmethod
+        def of_class(cls):
+            return cls.failing(cls.__name__)
+
+        @retrying("recurs(2)")
+        @staticmethod
+        def of_none(name="none"):
+            return Service.other(name)
+    assert (Service.of_class(), Service().of_none()) == ("Service", "none")
+
+
+def test_an_awaitable_is_awaited_and_a_value_that_follows_is_not(retrying, clock):
+    effect, calls = clock.failing(1), []
+
+    async def fetched():
+        return effect()
+
+    def cached():
+        calls.append(1)
+        return "cached" if len(calls) > 1 else fetched()
+
+    async def main():
+        return await retrying("recurs(2)", sleep=clock.sleep_async)(cached)()
+    assert (asyncio.run(main()), len(calls)) == ("cached", 2)
+
+
+def test_statistics_and_a_budget_are_plain_values(zsched, retrying, clock):
+    tried = retrying("recurs(9)")(clock.failing(2))
+    assert tried() == "done"
+    assert dataclasses.asdict(pickle.loads(pickle.dumps(tried.statistics))) == {
+        "calls": 1, "retries": 2, "given_up": 0, "slept": 0.0}
+    for words in [(-1,), (math.nan,), (3, -1), (3, math.inf)]:
+        with pytest.raises(ValueError, match="^zsched: a budget of "):
+            zsched.Budget(*words)
 
 
 def test_a_wait_that_no_clock_has_is_an_error(retrying, clock):

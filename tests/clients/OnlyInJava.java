@@ -132,6 +132,22 @@ public final class OnlyInJava {
         same(now[0], 7 + 9 * 5_000_000L + 110 * 1_000_000L);
     }
 
+    /** An attempt that a jitter begins early counts from its planned moment on, so it makes no more attempts. */
+    private static void early() {
+        String text = "(spaced(1000) && elapsed).whileOutput(_2 < 20000)";
+        for (double jitter : new double[] {0, 0.5, 1}) {
+            long[] now = {7};
+            int[] attempts = {0};
+            Retry retry = Retry.of(text).jitter(jitter).clock(() -> now[0], time -> now[0] += time.toNanos());
+            same(thrown(() -> retry.call(() -> {
+                attempts[0]++;
+                now[0] += 500_000_000;
+                return fail();
+            })).getMessage(), "busy");
+            same(attempts[0], 15);
+        }
+    }
+
     /** Attempts that a scheduler starts: their cause is judged, and none follows a cancelled future. */
     private static void async() throws Exception {
         ScheduledExecutorService scheduler = Executors.newScheduledThreadPool(1);
@@ -160,6 +176,22 @@ public final class OnlyInJava {
         same(failures, List.of("1 false"));
     }
 
+    /** A cancelled future ends its wait and its attempt, and takes no token. */
+    private static void cancelled() throws Exception {
+        ScheduledExecutorService scheduler = Executors.newScheduledThreadPool(1);
+        Budget budget = new Budget(9, 2);
+        Retry retry = Retry.of("spaced(3600000)").budget(budget);
+        retry.callAsync(() -> CompletableFuture.failedFuture(BUSY), scheduler).cancel(true);
+        CompletableFuture<String> running = new CompletableFuture<>();
+        retry.callAsync(() -> running, scheduler).cancel(true);
+        same(List.of(running.isCancelled(), budget.tokens()), List.of(true, 8.0));
+        same(retry.callAsync(() -> CompletableFuture.<String>failedFuture(new Throwable("odd")), scheduler)
+            .handle((value, error) -> error.getMessage()).get(60, TimeUnit.SECONDS), "odd");
+        scheduler.shutdown();
+        same(scheduler.awaitTermination(60, TimeUnit.SECONDS), true);
+        same(thrown(() -> retry.call(null)).getMessage(), "attempt");
+    }
+
     /** Numbers are unsigned, and bounds are held or not. */
     private static void numbers() {
         same(new Stepper("spaced(18446744073709551615)").after(1, 0).waitFrom(1).toString(), "PT5124095576030H25M51.614S");
@@ -168,6 +200,9 @@ public final class OnlyInJava {
         same(List.of(bounds.within(6, Duration.ofMillis(3100)), bounds.within(5, Duration.ofMillis(3100)),
             bounds.within(6, Duration.ofMillis(3099)), Schedule.bounds("spaced(1)", 9).within(-1, Duration.ofDays(1))),
             List.of(true, false, false, false));
+        Schedule.Bounds run = Schedule.bounds("recurs(100)", 1000, Duration.ofMillis(1), Duration.ofNanos(1_999_999));
+        same(List.of(run.endsWithin(Duration.ofMillis(202)), run.endsWithin(Duration.ofMillis(201)), run.endsWithin(Duration.ofMillis(-1)),
+            run.within(101, Duration.ZERO), run.within(101, Duration.ofMillis(-1))), List.of(true, false, false, true, false));
     }
 
     public static void main(String[] words) throws Exception {
@@ -175,7 +210,9 @@ public final class OnlyInJava {
         hooks();
         futures();
         results();
+        early();
         async();
+        cancelled();
         numbers();
     }
 }

@@ -56,6 +56,64 @@ func TestAContextThatEndsInAWaitIsBothErrors(t *testing.T) {
 	}
 }
 
+type coded struct{ code int }
+
+func (coded coded) Error() string { return "coded" }
+
+func TestAContextThatEndsInAnAttemptTakesNoToken(t *testing.T) {
+	ctx, cancel := context.WithCancel(context.Background())
+	budget := zsched.NewBudget(9, 1)
+	err := zsched.Retry(ctx, "spaced(1)", nil, func(context.Context) error {
+		cancel()
+		return coded{7}
+	}, zsched.WithBudget(budget), zsched.Notify(func(_ error, _ int, wait time.Duration) { t.Error(wait) }))
+	var found coded
+	if !errors.Is(err, context.Canceled) || !errors.As(err, &found) || found.code != 7 || budget.Tokens() != 9 {
+		t.Error(err, found, budget.Tokens())
+	}
+}
+
+func TestAWaitIsNotNegative(t *testing.T) {
+	waits := 0
+	_ = zsched.Retry(context.Background(), "recurs(3)", nil, func(context.Context) error {
+		time.Sleep(1700 * time.Microsecond)
+		return errBusy
+	}, zsched.Notify(func(_ error, _ int, wait time.Duration) {
+		if waits++; wait < 0 {
+			t.Error(wait)
+		}
+	}))
+	if waits != 3 {
+		t.Error(waits)
+	}
+}
+
+func TestACopyOfAScheduleGoesOnAlone(t *testing.T) {
+	schedule, err := zsched.New("(spaced(5) && recurs(9)).collectAll")
+	for moment := uint64(0); err == nil && moment < 5; moment++ {
+		_, err = schedule.After(moment, 0)
+	}
+	fork := *schedule
+	_, first := schedule.After(10, 1)
+	_, second := fork.After(20, 2)
+	if err != nil || first != nil || second != nil || schedule.Seen()[5] != (zsched.Seen{Moment: 10, Input: 1}) {
+		t.Error(err, first, second, schedule.Seen())
+	}
+}
+
+func TestAnAttemptThatBeginsEarlyCountsFromItsPlannedMoment(t *testing.T) {
+	text, attempts := "(spaced(20) && elapsed).whileOutput(_2 < 400)", uint64(0)
+	_ = zsched.Retry(context.Background(), text, nil, func(context.Context) error {
+		attempts++
+		time.Sleep(10 * time.Millisecond)
+		return errBusy
+	}, zsched.Jitter(1))
+	bounds, err := zsched.BoundsOf(text, 1000, zsched.Attempt{Least: 10})
+	if err != nil || !bounds.HasMost || attempts > bounds.Most {
+		t.Error(attempts, bounds, err)
+	}
+}
+
 func TestABoundIsHeldOrNot(t *testing.T) {
 	// 6 attempts, and 3100 milliseconds
 	bounds, err := zsched.BoundsOf("(exponential(100) && recurs(5))", 1000)

@@ -2,7 +2,7 @@
 // Tests what only the binding for Node has: `node --test`.
 const assert = require('node:assert');
 const { test } = require('node:test');
-const { Budget, Schedule, retry } = require('zsched');
+const { Budget, Schedule, bounds, retry } = require('zsched');
 
 function failed() {
   throw new Error('failed');
@@ -31,6 +31,26 @@ test('an attempt gets its number and the signal, and no other follows an abort',
   assert.deepStrictEqual(attempts, [[1, true], [2, true], [3, true]]);
 });
 
+test('an abort in a hook ends the wait', async () => {
+  for (const hook of ['onFailedAttempt', 'shouldRetry', 'retryAfter']) {
+    const control = new AbortController();
+    const options = { signal: control.signal, [hook]: () => { control.abort(); return 1; } };
+    await assert.rejects(retry('spaced(100000)', failed, options), (error) => error.lastError.message === 'failed');
+  }
+});
+
+test('an abort that ends an attempt keeps the error before it', async () => {
+  const control = new AbortController();
+  const attempt = (number, signal) => {
+    if (number === 3) {
+      control.abort();
+      signal.throwIfAborted();
+    }
+    failed();
+  };
+  await assert.rejects(retry('forever', attempt, { signal: control.signal }), (error) => error.lastError.message === 'failed');
+});
+
 test('a wait of 0 lets timers run', async () => {
   let isLate = false;
   setTimeout(() => { isLate = true; }, 5);
@@ -54,9 +74,42 @@ test('a hook gets each failed attempt, and no wait after the last one', async ()
 test('an input that cannot be had hides no error', async () => {
   for (const text of ['recurs(2)', 'recurs(2).collectAll']) {
     let attempts = 0;
+    const waits = [];
     const inputOf = () => (++attempts < 2 ? 0 : undefined);
-    await assert.rejects(retry(text, failed, { inputOf }), (error) => error.message === 'failed' && error.notTriedAgain instanceof TypeError);
-    assert.strictEqual(attempts, 2);
+    const hooks = { inputOf, onFailedAttempt: ({ wait }) => waits.push(wait === null) };
+    await assert.rejects(retry(text, failed, hooks), (error) => error.message === 'failed' && error.notTriedAgain instanceof TypeError);
+    assert.deepStrictEqual([attempts, waits], [2, [false, true]]);
+  }
+});
+
+test('a least wait that is no number hides no error, and a frozen error is thrown as it is', async () => {
+  for (const least of [NaN, Infinity, '1', 1n, {}]) {
+    await assert.rejects(retry('recurs(2)', failed, { retryAfter: () => least }), (error) => error.message === 'failed'
+      && error.notTriedAgain instanceof TypeError);
+  }
+  const frozen = Object.freeze(new Error('frozen'));
+  await assert.rejects(retry('recurs(2)', () => { throw frozen; }, { inputOf: () => '503' }), frozen);
+});
+
+test('an attempt that begins early counts from its planned moment', async () => {
+  const text = '(spaced(20) && elapsed).whileOutput(_2 < 400)';
+  let attempts = 0n;
+  const attempt = async () => {
+    attempts += 1n;
+    await new Promise((resolve) => { setTimeout(resolve, 11); });
+    failed();
+  };
+  await assert.rejects(retry(text, attempt, { jitter: 1 }), /failed/);
+  assert(attempts <= bounds(text, 1000, [10, null]).most);
+});
+
+test('options that no retry can have are errors', async () => {
+  await assert.rejects(retry('recurs(2)', Promise.resolve(1)), TypeError);
+  for (const jitter of [-1, 2, NaN, 'x']) {
+    await assert.rejects(retry('recurs(2)', failed, { jitter }), RangeError);
+  }
+  for (const words of [[-1], [NaN], ['10'], [3, -1]]) {
+    assert.throws(() => new Budget(...words), RangeError);
   }
 });
 

@@ -1,7 +1,7 @@
 //! Tests what only the binding for Rust has.
 use std::cell::Cell;
 use std::time::Duration;
-use zsched::{check, version, Fault, Retry, Schedule, Stepper};
+use zsched::{bounds_for, check, version, Fault, Retry, Schedule, Stepper};
 
 /// The bytes that the binding at first has for an output.
 const ROOM: usize = 256;
@@ -93,4 +93,30 @@ fn the_state_after_many_attempts_is_as_long_as_before() {
         stepper.after(moment, 0).expect("a step");
     }
     assert_eq!(stepper.state().len(), words);
+}
+
+#[test]
+fn a_failed_retry_is_an_error_of_the_attempt() -> Result<(), Box<dyn std::error::Error>> {
+    let fails = || Err::<u64, Box<dyn std::error::Error>>("busy".into());
+    for (text, wanted) in [("recurs(1)", "busy"), ("recurs(", "no term at byte 7")] {
+        let ended = zsched::retry(text, |_| 0, fails).map_err(zsched::Failed::into_error);
+        assert_eq!(ended.expect_err("an error").to_string(), wanted);
+    }
+    Ok(())
+}
+
+#[test]
+fn an_attempt_that_begins_early_counts_from_its_planned_moment() {
+    let text = "(spaced(1000) && elapsed).whileOutput(_2 < 20000)";
+    let most = bounds_for(text, 1000, 500, None).expect("a schedule").most;
+    for share in [0.0, 0.5, 1.0] {
+        let (clock, mut attempts) = (Cell::new(Duration::ZERO), 0);
+        let attempt = || {
+            attempts += 1;
+            clock.set(clock.get() + Duration::from_millis(500));
+            Err::<(), u64>(503)
+        };
+        let ended = Retry::new(text).jitter(share).call_by(attempt, || clock.get(), |wait| clock.set(clock.get() + wait));
+        assert_eq!((ended.is_err(), attempts, most), (true, 15, Some(15)));
+    }
 }

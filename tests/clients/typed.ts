@@ -26,3 +26,7 @@ retry(text, async (number, signal) => ({ number, signal }), options).then(({ num
 check(7);
 // @ts-expect-error: what an attempt returns has a type
 retry(text, () => 7).then((found) => found.length);
+// @ts-expect-error: the library makes bounds
+new Bounds();
+// @ts-expect-error: and faults
+new Fault('recurs(3)');
