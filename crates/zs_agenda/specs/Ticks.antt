@@ -4,15 +4,14 @@
 use Rattle.std.specs.Prelude.{◌≤◌, ◌<◌, ◌-◌, length, slice_index, ℕ, List, Option, Some, None}
 use Rattle.std.specs.Prelude.{Contains, find, nat_le, if◌then◌else◌}
 use Rattle.std.specs.List.Sorted.{IsStrictlyIncreasing}
-use Rattle.zs_agenda.specs.declared.clock.TheConstants.{MAX_HORIZON, MAX_TICKS}
 
 -- the latest last tick that a clock may have
 abbrev pub max_horizon : ℕ
-max_horizon = MAX_HORIZON
+max_horizon = 999999999999999
 
 -- the greatest number of ticks in a list
 abbrev pub max_ticks : ℕ
-max_ticks = MAX_TICKS
+max_ticks = 1000000
 
 -- each millisecond from 0 up to a last one, or the moments of a list
 pub data Ticks : Type 0 where

@@ -4,7 +4,7 @@ ghost use Rattle.std.specs.Prelude.{◌≡◌, ◌≤◌, ◌<◌, ◌-◌, ◌�
 ghost use Rattle.std.specs.List.Sorted.{IsStrictlyIncreasing};
 ghost use Rattle.zs_agenda.specs.Ticks.{HasNoTickFrom, IsFirstTick, IsTick, IsTickList, every_ms, first_tick, horizon, listed, max_horizon};
 
-use std::alloc::{AllocError, Global};
+use std::alloc::AllocError;
 use std::marker::Model;
 
 // The latest last tick that a clock may have.
@@ -72,12 +72,14 @@ impl Clock {
     }
 
     /// Copies the clock, with its list of ticks if it has one.
-    pub fn copy(&self, alloc: Global) -> Result<Clock, AllocError>
+    pub fn copy(&self) -> Result<Clock, AllocError>
         ensures same { IfOk result (λ copy. copy ≡ self.now) }
     {
         let source = match &self.source {
             TickSource::EveryMs(last) => TickSource::EveryMs(*last),
-            TickSource::Listed(ticks) => TickSource::Listed(Vec::from_slice(alloc, ticks)?),
+            TickSource::Listed(ticks) => {
+                TickSource::Listed(Vec::from_slice(*ticks.allocator(), ticks)?)
+            },
         };
         Ok(Clock { source })
     }

@@ -7,12 +7,11 @@ use Rattle.zs_step.specs.declared.decision.Decision.{Decision}
 use Rattle.zs_step.specs.declared.decision.Decision.TheVariants.{Stop, Next}
 use Rattle.zs_step.specs.History.{History}
 use Rattle.zs_step.specs.Answer.{answer_of}
-use Rattle.zs_bounds.specs.declared.span.TheConstants.{MAX_TICK}
 use Rattle.zs_bounds.specs.declared.durations.Durations.{Durations}
 
 -- the greatest moment of a clock: about 31,700 years in milliseconds
 abbrev pub max_tick : ℕ
-max_tick = MAX_TICK
+max_tick = 999999999999999
 
 -- A step of a driver: a moment of a clock, and any input of 64 bits.
 pub record IsStep (p : ℕ × ℕ) : Type 0 where

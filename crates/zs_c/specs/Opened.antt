@@ -1,8 +1,7 @@
 -- The schedule of an opened program: for private contracts alone.
 use Rattle.std.specs.Prelude.{◌≡◌, ℕ, ◌≤◌, true, List}
 use Rattle.zs_term.specs.Output.{Output}
-use Rattle.zs_term.specs.Schedule.{Schedule, is_within_limits, weight}
-use Rattle.zs_term.specs.declared.limits.TheConstants.{MAX_DEPTH, MAX_WEIGHT}
+use Rattle.zs_term.specs.Schedule.{Schedule, is_within_limits, weight, max_depth, max_weight}
 use Rattle.zs_step.specs.History.{History}
 use Rattle.zs_step.specs.Answer.{answer_of}
 use Rattle.zs_step.specs.Memory.{keeps_no_list}
@@ -29,5 +28,5 @@ StepsOpened o old new step r room out number =
 -- a fact holds of every output that words may represent
 abbrev pub OfEachOutput : List ℕ → List ℕ → (Output → Type 0) → Type 0
 OfEachOutput code words Holds =
-    (t : Schedule) (h : History) → IsCode t code MAX_DEPTH → weight t ≤ MAX_WEIGHT
+    (t : Schedule) (h : History) → IsCode t code max_depth → weight t ≤ max_weight
     → words ≡ held_of t h → Holds (answer_of t h).output

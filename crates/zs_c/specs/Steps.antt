@@ -1,7 +1,6 @@
 -- What a step of a code does to the words of its state: for private contracts alone.
 use Rattle.std.specs.Prelude.{◌≡◌, ℕ, suc, ◌+◌, ◌≤◌, List, [], ◌∷◌, ◌++◌, length}
-use Rattle.zs_term.specs.Schedule.{Schedule, weight, two, and_then}
-use Rattle.zs_term.specs.declared.limits.TheConstants.{MAX_WEIGHT}
+use Rattle.zs_term.specs.Schedule.{Schedule, weight, max_weight, two, and_then}
 use Rattle.zs_step.specs.declared.decision.Decision.{Decision}
 use Rattle.zs_step.specs.History.{History}
 use Rattle.zs_step.specs.Answer.{answer_of}
@@ -44,7 +43,7 @@ ClearsParts sizes code levels old new =
 -- the words become those after a step
 abbrev pub StepsWords : List ℕ → ℕ → List ℕ → List ℕ → Step → ℕ → ℕ → Decision → Type 0
 StepsWords code levels old new step before after d =
-    (t : Schedule) (h : History) → IsCode t code levels → before + weight t ≤ MAX_WEIGHT
+    (t : Schedule) (h : History) → IsCode t code levels → before + weight t ≤ max_weight
     → old ≡ held_of t h
     → StepsCode t h new step.moment step.input d before after
 
@@ -53,7 +52,7 @@ abbrev pub StepsParts : Sizes → List ℕ → ℕ → List ℕ → List ℕ →
     → Type 0
 StepsParts sizes code levels old new step before after d =
     (a b : Schedule) (h : History) → IsParts a b sizes code levels
-    → before + weight a + weight b ≤ MAX_WEIGHT
+    → before + weight a + weight b ≤ max_weight
     → old ≡ held_of a h ++ held_of b h
     → StepsBoth a b h new step.moment step.input d.0 d.1 before after
 
@@ -61,5 +60,5 @@ StepsParts sizes code levels old new step before after d =
 abbrev pub StepsInTurn : Sizes → List ℕ → ℕ → List ℕ → List ℕ → Step → ℕ → ℕ → Decision → Type 0
 StepsInTurn sizes code levels old new step before after d =
     (a b : Schedule) (h : History) → IsParts a b sizes code levels
-    → before + weight a + weight b ≤ MAX_WEIGHT
+    → before + weight a + weight b ≤ max_weight
     → old ≡ held_of (two and_then a b) h → StepsThen a b h new step.moment step.input d before after

@@ -4,7 +4,7 @@ pub mod Extending
 pub mod Moments
 pub mod Records
 pub mod Steps
-pub mod Logging
+pub mod Ends
 pub mod Advancing
 pub mod Refusing
 pub mod Beginning

@@ -13,8 +13,7 @@ use Rattle.zs_drive.specs.declared.record.Ending.{Ending}
 use Rattle.zs_drive.specs.Clocks.{first_tick_from, AllBefore, max_tick}
 use Rattle.zs_drive.specs.Values.{JobRecord, AttemptedValue}
 use Rattle.zs_drive.specs.Timeline.{Timeline, before, number_of, ending_by_outcome, beat_after, by_answer, by_outcome, timeline_of, moments_of, poll_moments}
-use Rattle.zs_drive.specs.Stored.{end_continued}
-use Rattle.zs_drive.specs.Recorded.{AllContinued, IsOnTimeline}
+use Rattle.zs_drive.specs.Recorded.{AllContinued, IsOnTimeline, end_continued}
 use Rattle.zs_drive.specs.DriverRules.{pair_of, longer_by, history_from, history_after}
 use Rattle.zs_drive.proofs.Ticks.{lt_cases, AllBefore-none}
 use Rattle.zs_drive.proofs.Moments.{AllBefore-later, AreTicks-append, moments-one, moments-two}

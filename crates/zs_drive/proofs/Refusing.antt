@@ -22,7 +22,7 @@ use Rattle.zs_drive.specs.declared.progress.Progress.{Progress}
 use Rattle.zs_drive.specs.declared.task.Task.TheInside.{Inside}
 use Rattle.zs_drive.specs.Values.{JobRecord}
 use Rattle.zs_drive.specs.Timeline.{number_of, ending_by_outcome, ending_by_schedule, by_answer, by_outcome, timeline_of}
-use Rattle.zs_drive.specs.Recorded.{AllContinued}
+use Rattle.zs_drive.specs.Recorded.{AllContinued, runs}
 use Rattle.zs_drive.specs.DriverRules.{history_after}
 use Rattle.zs_drive.specs.Progress.{IsProgress, HasState, job_in, attempts_of, moments_in, timeline_in, due_of}
 use Rattle.zs_drive.specs.Turns.{Advances, StandsStill, IsSame, IsOver, IsEarly, IsDuePhase, TakesMemory}
@@ -32,7 +32,7 @@ use Rattle.zs_drive.proofs.Ticks.{lt_cases}
 use Rattle.zs_drive.proofs.Extending.{resume, extended, resume-soon, resume-late}
 use Rattle.zs_drive.proofs.Records.{polled-extended}
 use Rattle.zs_drive.proofs.Steps.{begins, closes}
-use Rattle.zs_drive.proofs.Advancing.{ran, stands-at, moments-in}
+use Rattle.zs_drive.proofs.Advancing.{ran}
 
 -- no outcome itself gives this ending
 abbrev IsUnlike : Mode → Option Ending → Type 0
@@ -66,8 +66,7 @@ module _ (job : JobRecord) (seen : ℕ) where
 polled-at : (p : Progress) (x : ℕ) → IsProgress p → IsScript p.script → due_of p.phase ≡ Some x → x ≤ p.seen
     → timeline_of (job_in p) (moments_in p ++ p.seen ∷ []) ≡ extended (job_in p) p.seen [] (timeline_in p)
 polled-at p x progress script waits due =
-    ap (λ (ms : List ℕ). timeline_of (job_in p) (ms ++ p.seen ∷ [])) (moments-in p progress)
-    ∙ polled-extended (job_in p) script (timeline_in p) x p.seen p.polls progress.on_timeline waits due progress.bounded
+    polled-extended (job_in p) script (timeline_in p) x p.seen p.polls progress.on_timeline waits due progress.bounded
 
 -- a due poll that may allocate memory gives no ending by outcome
 asked-unlike : (p : Progress) (phase : Phase) → p.phase ≡ phase → IsProgress p → IsScript p.script → IsDuePhase p.seen p.phase → TakesMemory p.mode p.phase
@@ -81,7 +80,8 @@ asked-unlike p (Running attempt) is progress script due takes =
     let soon : attempt.end ≤ p.seen = rw is at due in
     let none : ending_by_outcome p.mode attempt.outcome ≡ None = rw is at takes in
     let r = ran p attempt.outcome (Running attempt) is progress (rw is (soon, refl)) in
-    let made = (rw (r.last, r.due, r.going) at (polled-at p r.w progress script r.due r.soon)) ∙ closes (job_in p) p.seen r.others r.s r.w r.all r.soon in
+    let was : extended (job_in p) p.seen [] (timeline_in p) ≡ extended (job_in p) p.seen [] (record { attempts = r.others ++ runs r.s ∷ []; due = Some r.w; ending = None }) = rw (r.last, r.due, r.going) refl in
+    let made = polled-at p r.w progress script r.due r.soon ∙ was ∙ closes (job_in p) p.seen r.others r.s r.w r.all r.soon in
     rw (rw (← r.own, none) at made) (unlike-outcome (job_in p) p.seen (history_after r.others) r.s attempt.outcome)
 asked-unlike p (Over over) is progress script due takes = absurd (rw is at due)
 
@@ -115,5 +115,5 @@ pub refused-EndsByOutcome : {T E : Type 0} (t : Inside) (turn : Poll (Result T E
 refused-EndsByOutcome t turn fault done task refused early over takes ending ends =
     let p = t.progress.value in
     let due : IsDuePhase p.seen p.phase = phase_cases p.seen p.phase (IsDuePhase p.seen p.phase) (λ o. let other = over o in cc) (λ e. let other = early e in cc) (λ d. d) in
-    let same : polled (task_of t) ≡ record (task_of t) { moments = moments_in p ++ p.seen ∷ [] } = polled-due (task_of t) (current_timeline (task_of t)).due (rw (stands-at p task.progress) due) in
+    let same : polled (task_of t) ≡ record (task_of t) { moments = moments_in p ++ p.seen ∷ [] } = polled-due (task_of t) (current_timeline (task_of t)).due (rw (← task.progress.on_timeline.same) due) in
     asked-unlike p p.phase refl task.progress task.script due (rw refused at takes) ends.outcome ending ends.gives (rw same at ends.ends)

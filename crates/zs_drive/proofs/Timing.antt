@@ -11,8 +11,7 @@ use Rattle.zs_step.specs.Answer.{Answer, answer, answer_of}
 use Rattle.zs_drive.specs.Clocks.{first_tick_from}
 use Rattle.zs_drive.specs.Values.{JobRecord, AttemptedValue, EndedValue}
 use Rattle.zs_drive.specs.Timeline.{Timeline, number_of, ending_by_outcome, ended_attempt, beat_after}
-use Rattle.zs_drive.specs.Stored.{continued, end_continued, step_continued}
-use Rattle.zs_drive.specs.Recorded.{AllContinued}
+use Rattle.zs_drive.specs.Recorded.{AllContinued, continued, end_continued, step_continued}
 use Rattle.zs_drive.specs.DriverRules.{pair_of, longer_by, history_from, history_after, IsTimeline, IsEnd, IsLast, StopsBy, StopsOn, BeginsAfter, asked_unless}
 use Rattle.zs_drive.proofs.Follows.{GoesOn, IsAsked, EndsAt, Follows}
 use Rattle.zs_drive.proofs.Ticks.{lt_cases, first_tick_from-again}

@@ -1,10 +1,9 @@
 -- A clock as a finite set of ticks in rising order: each millisecond up to a horizon, or a list.
 use Rattle.std.specs.Prelude.{ℕ, ◌+◌, ◌≤◌, ◌<◌, List, [], ◌∷◌, Option, find, nat_le}
-use Rattle.zs_drive.specs.declared.task.TheConstants.{MAX_TICK}
 
--- the greatest moment that a tick may have, in milliseconds
+-- the greatest moment that a tick may have, in milliseconds: one less than 10^15
 abbrev pub max_tick : ℕ
-max_tick = MAX_TICK
+max_tick = 999999999999999
 
 -- the least tick at or after x, if there is one: the first one found, since ticks rise
 unfoldable pub first_tick_from : List ℕ → ℕ → Option ℕ

@@ -3,7 +3,6 @@ use Rattle.std.specs.Prelude.{◌≡◌, false, true, None}
 use Rattle.zs_effect.specs.Scripts.{IsScript}
 use Rattle.zs_drive.specs.declared.task.Task.TheInside.{Inside}
 use Rattle.zs_drive.specs.Tasks.{TaskValue}
-use Rattle.zs_drive.specs.Log.{keeping_of}
 use Rattle.zs_drive.specs.Progress.{moments_in, job_in, ending_of, IsProgress, HasState}
 
 -- the task as contracts know it
@@ -11,7 +10,6 @@ abbrev pub task_of : Inside → TaskValue
 task_of t = record {
   number = t.number;
   job = job_in t.progress.value;
-  keeps = keeping_of t.progress.value.log;
   moments = moments_in t.progress.value;
   seen = t.progress.value.seen;
   broken = t.broken;

@@ -1,5 +1,5 @@
 -- What the fields of a task represent, and their invariant.
-use Rattle.std.specs.Prelude.{◌≡◌, ℕ, ◌≤◌, List, Option, Some, None, ⊤, string_bytes}
+use Rattle.std.specs.Prelude.{ℕ, ◌≤◌, List, map, Option, Some, None, ⊤, string_bytes}
 use Rattle.zs_step.specs.declared.compiled.Compiled.{Compiled}
 use Rattle.zs_step.specs.Compiled.{compiled_schedule}
 use Rattle.zs_drive.specs.declared.record.Ending.{Ending}
@@ -7,9 +7,8 @@ use Rattle.zs_drive.specs.declared.progress.Phase.{Phase}
 use Rattle.zs_drive.specs.declared.progress.Phase.TheVariants.{Waiting, Running, Over}
 use Rattle.zs_drive.specs.declared.progress.Progress.{Progress}
 use Rattle.zs_drive.specs.Clocks.{max_tick}
-use Rattle.zs_drive.specs.Values.{JobRecord, AttemptedValue}
-use Rattle.zs_drive.specs.Timeline.{Timeline, timeline_of}
-use Rattle.zs_drive.specs.Log.{IsLog, log_moments}
+use Rattle.zs_drive.specs.Values.{JobRecord, AttemptedValue, attempted_of}
+use Rattle.zs_drive.specs.Timeline.{Timeline, poll_moments}
 use Rattle.zs_drive.specs.Recorded.{AllContinued, IsOnTimeline, IsStepped, IsRunning}
 
 -- the due moment
@@ -34,13 +33,13 @@ job_in p = record {
   script = p.script;
 }
 
+-- its attempts so far
+abbrev pub attempts_of : Progress → List AttemptedValue
+attempts_of p = map attempted_of p.records.items
+
 -- the moments at which it was polled while it was due
 abbrev pub moments_in : Progress → List ℕ
-moments_in p = log_moments p.log
-
--- its attempts so far: those of the job on the clock of these moments
-abbrev pub attempts_of : Progress → List AttemptedValue
-attempts_of p = (timeline_of (job_in p) (moments_in p)).attempts
+moments_in p = poll_moments (attempts_of p)
 
 -- the timeline so far
 abbrev pub timeline_in : Progress → Timeline
@@ -60,12 +59,9 @@ IsSteppedIn attempts schedule seen (Waiting due) = IsStepped attempts schedule s
 IsSteppedIn attempts schedule seen (Running attempt) = IsStepped attempts schedule seen
 IsSteppedIn attempts schedule seen (Over ending) = ⊤
 
--- the log stores the attempts of the job on the clock of the log's moments
+-- the records are those of the job on the clock of their moments
 pub record IsProgress (p : Progress) : Type 0 where
-  pub log : IsLog p.log (attempts_of p)
   pub on_timeline : IsOnTimeline (job_in p) (timeline_in p) p.polls
-  pub waits : (timeline_of (job_in p) (moments_in p)).due ≡ due_of p.phase
-  pub ended : (timeline_of (job_in p) (moments_in p)).ending ≡ ending_of p.phase
   pub phase : IsPhase (job_in p) (attempts_of p) p.seen p.phase
   pub bounded : p.seen ≤ max_tick
 

@@ -1,13 +1,35 @@
 -- The invariant of a task's attempts, over plain values.
-use Rattle.std.specs.Prelude.{◌≡◌, ℕ, ◌≤◌, List, [], ◌∷◌, ◌++◌, length, true, None}
+use Rattle.std.specs.Prelude.{◌≡◌, ℕ, ◌≤◌, Bool, true, false, List, [], ◌∷◌, ◌++◌, length}
+use Rattle.std.specs.Prelude.{Option, Some, None}
 use Rattle.zs_effect.specs.Attempts.{AttemptValue}
 use Rattle.zs_step.specs.declared.compiled.Compiled.{Compiled}
+use Rattle.zs_step.specs.declared.decision.Decision.{Decision}
+use Rattle.zs_step.specs.declared.decision.Decision.TheVariants.{Stop, Next}
+use Rattle.zs_step.specs.Answer.{Answer}
 use Rattle.zs_step.specs.Compiled.{StandsFor, last_seen}
 use Rattle.zs_drive.specs.Clocks.{AreTicks}
-use Rattle.zs_drive.specs.Values.{JobRecord, AttemptedValue}
+use Rattle.zs_drive.specs.Values.{JobRecord, AttemptedValue, EndedValue}
 use Rattle.zs_drive.specs.Timeline.{Timeline, timeline_of, poll_moments, beat_after}
 use Rattle.zs_drive.specs.DriverRules.{history_after}
-use Rattle.zs_drive.specs.Stored.{continued}
+
+-- whether the schedule continues
+abbrev pub is_next : Decision → Bool
+is_next Stop = false
+is_next (Next at) = true
+
+-- the same for a step, if there was one
+abbrev pub step_continued : Option Answer → Bool
+step_continued None = false
+step_continued (Some step) = is_next step.decision
+
+-- the same for the end of an attempt, if it has one
+abbrev pub end_continued : Option EndedValue → Bool
+end_continued None = false
+end_continued (Some ended) = step_continued ended.step
+
+-- whether the schedule was stepped after the attempt, and continued
+abbrev pub continued : AttemptedValue → Bool
+continued attempt = end_continued attempt.ended
 
 -- the schedule continued after each attempt
 unfoldable pub AllContinued : List AttemptedValue → Type 0

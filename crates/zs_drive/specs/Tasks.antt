@@ -5,24 +5,22 @@ use Rattle.futures.specs.declared.task.Poll.{Poll}
 use Rattle.futures.specs.declared.task.Poll.TheVariants.{Ready, Pending}
 use Rattle.zs_effect.specs.declared.script.Outcome.{Outcome}
 use Rattle.zs_drive.specs.declared.record.Ending.{Ending}
-use Rattle.zs_drive.specs.declared.record.Keeping.{Keeping}
 use Rattle.zs_drive.specs.declared.fault.DriveFault.{DriveFault}
 use Rattle.zs_drive.specs.Values.{JobRecord}
 use Rattle.zs_drive.specs.Timeline.{Timeline, timeline_of, ending_by_outcome}
 
--- a job, how its attempts are stored, and the moments at which it was polled while it was due
+-- a job, and the moments at which it was polled while it was due
 pub record TaskValue : Type 0 where
   pub number : ℕ
   pub job : JobRecord
-  pub keeps : Keeping
   pub moments : List ℕ
   pub seen : ℕ
   pub broken : Bool
 
 -- a task that was not polled and is unbroken, at moment 0
-abbrev pub new_task : ℕ → JobRecord → Keeping → TaskValue
-new_task number job keeps =
-    record { number = number; job = job; keeps = keeps; moments = []; seen = 0; broken = false }
+abbrev pub new_task : ℕ → JobRecord → TaskValue
+new_task number job =
+    record { number = number; job = job; moments = []; seen = 0; broken = false }
 
 -- the timeline of a job after polls at these moments: that on the clock that ticks at them
 abbrev pub timeline_at : JobRecord → List ℕ → Timeline

@@ -1,20 +1,22 @@
 -- What one poll does to the fields of a task.
-use Rattle.std.specs.Prelude.{◌≡◌, ℕ, ◌+◌, ◌≤◌, ◌<◌, List, [], ◌∷◌, ◌++◌, map, Option, Some, None}
-use Rattle.std.specs.Prelude.{Result, OnOk, OnErr, IsSomeAnd, ⊤}
+use Rattle.std.specs.Prelude.{◌≡◌, ℕ, ◌+◌, ◌≤◌, ◌<◌, List, [], ◌∷◌, ◌++◌, length, map, vec_len}
+use Rattle.std.specs.Prelude.{Option, Some, None, Result, OnOk, OnErr, IsSomeAnd, ⊤}
+use Rattle.std.specs.Global.{Vec}
+use Rattle.std.specs.Vec.{vec_capacity}
+use Rattle.zs_term.specs.declared.outputs.Out.{Out}
+use Rattle.zs_term.specs.Output.{output_of}
 use Rattle.zs_term.specs.Saturating.{saturated}
 use Rattle.zs_effect.specs.declared.script.Beat.{Beat}
 use Rattle.zs_effect.specs.declared.script.Outcome.{Outcome}
 use Rattle.zs_effect.specs.Attempts.{AttemptValue}
+use Rattle.zs_effect.specs.Scripts.{entry_at}
 use Rattle.zs_step.specs.declared.compiled.Compiled.{Compiled}
 use Rattle.zs_step.specs.declared.decision.Decision.{Decision}
-use Rattle.zs_step.specs.declared.decision.Decision.TheVariants.{Next}
 use Rattle.zs_step.specs.History.{History}
 use Rattle.zs_step.specs.Answer.{Answer, answer, answer_of}
-use Rattle.zs_step.specs.Compiled.{StandsFor, compiled_output, compiled_schedule}
+use Rattle.zs_step.specs.Compiled.{StandsFor, compiled_schedule}
 use Rattle.zs_drive.specs.declared.fault.DriveFault.{DriveFault}
 use Rattle.zs_drive.specs.declared.job.Mode.{Mode}
-use Rattle.zs_drive.specs.declared.log.Log.{Log}
-use Rattle.zs_drive.specs.declared.log.Told.{Told}
 use Rattle.zs_drive.specs.declared.progress.Phase.{Phase}
 use Rattle.zs_drive.specs.declared.progress.Phase.TheVariants.{Waiting, Running, Over}
 use Rattle.zs_drive.specs.declared.progress.Progress.{Progress}
@@ -23,48 +25,37 @@ use Rattle.zs_drive.specs.declared.record.Ended.{Ended}
 use Rattle.zs_drive.specs.Values.{AttemptedValue, attempted_of, ended_of}
 use Rattle.zs_drive.specs.Timeline.{ended_attempt, number_of, ending_by_outcome}
 use Rattle.zs_drive.specs.DriverRules.{history_after}
-use Rattle.zs_drive.specs.Log.{IsLog, Tells, keeping_of}
-use Rattle.zs_drive.specs.Recorded.{AllContinued, runs}
+use Rattle.zs_drive.specs.Recorded.{runs}
 use Rattle.zs_drive.specs.Progress.{due_of, ending_of, job_in, attempts_of, moments_in, IsProgress}
 use Rattle.zs_drive.specs.Progress.{HasState}
 
--- the result of the schedule's last step: the next attempt is due at this moment
-abbrev pub goes_on : Compiled → ℕ → Option Answer
-goes_on schedule next = Some (answer (compiled_output schedule) (Next next))
+-- the list has no spare capacity
+abbrev pub IsFull : Vec Attempted → Type 0
+IsFull records = vec_capacity records ≤ vec_len records
 
--- the last of the records ran, and now has this end
-abbrev pub HasEnd : List Attempted → List Attempted → Ended → Type 0
-HasEnd old new ended = (others : List AttemptedValue) (s : ℕ)
-    → map attempted_of old ≡ others ++ runs s ∷ []
-    → map attempted_of new ≡ others ++ record { begun = s; ended = ended_of (Some ended) } ∷ []
+-- the record at this place, of an attempt that ran, now has this end
+abbrev pub HasEnd : List Attempted → List Attempted → ℕ → Ended → Type 0
+HasEnd old new index ended = (others rest : List AttemptedValue) (s : ℕ) → index ≡ length others
+    → map attempted_of old ≡ others ++ runs s ∷ rest
+    → map attempted_of new ≡ others ++ record { begun = s; ended = ended_of (Some ended) } ∷ rest
 
--- the last attempt, which ran, has ended in this way, and is stored as lines
-abbrev pub TellsLast : Told → Told → ℕ → Outcome → Option Answer → Type 0
-TellsLast old new e outcome step = (s : ℕ) → old.last ≡ Some (record { begun = s; ended = None })
-    → Tells old new (ended_attempt s e outcome step)
-
--- An attempt begins at this moment. The schedule continued after each of those before it.
-abbrev pub BeginsNext : Log → Log → ℕ → Type 0
-BeginsNext old new begun = (attempts : List AttemptedValue) → AllContinued attempts
-    → IsLog old attempts → IsLog new (attempts ++ runs begun ∷ [])
-
--- The last attempt of the log, which ran, has ended in this way, and these attempts follow it.
-abbrev pub EndsLast : Log → Log → ℕ → Outcome → Option Answer → List AttemptedValue → Type 0
-EndsLast old new e outcome step more = (others : List AttemptedValue) (s : ℕ)
-    → AllContinued others → IsLog old (others ++ runs s ∷ [])
-    → IsLog new (others ++ ended_attempt s e outcome step ∷ more)
-
--- The last attempt of a task has ended in this way at the moment seen, and these follow it.
+-- The last attempt, which ran, has ended in this way at the moment seen, and these follow it.
 abbrev pub HasEnded : Progress → Progress → Outcome → Option Answer → List AttemptedValue → Type 0
-HasEnded old new outcome step more = EndsLast old.log new.log old.seen outcome step more
+HasEnded old new outcome step more = (others : List AttemptedValue) (s : ℕ)
+    → attempts_of old ≡ others ++ runs s ∷ []
+    → attempts_of new ≡ others ++ ended_attempt s old.seen outcome step ∷ more
+
+-- the script's entry for the next attempt
+abbrev pub next_entry : Progress → Beat
+next_entry p = entry_at p.script (length p.records.items + 1)
 
 -- the attempt of this entry that begins at this moment
 abbrev pub started : Beat → ℕ → AttemptValue
 started beat now = record { outcome = beat.outcome; end = saturated (now + beat.ms); seen = now }
 
--- the fields with one more poll, this log and this phase
-abbrev pub turned : Progress → Log → Phase → Progress
-turned p log phase = record p { log = log; phase = phase; polls = p.polls + 1 }
+-- the fields with one more poll, the records of others and this phase
+abbrev pub turned : Progress → Progress → Phase → Progress
+turned p q phase = record p { records = q.records; phase = phase; polls = p.polls + 1 }
 
 -- one due poll was done at the moment seen
 pub record Advances (old new : Progress) : Type 0 where
@@ -72,7 +63,6 @@ pub record Advances (old new : Progress) : Type 0 where
   pub state : HasState new
   pub moments : moments_in new ≡ moments_in old ++ old.seen ∷ []
   pub job : job_in new ≡ job_in old
-  pub keeps : keeping_of new.log ≡ keeping_of old.log
   pub seen : new.seen ≡ old.seen
 
 -- it waits to begin an attempt, which is due by the moment seen
@@ -92,10 +82,11 @@ abbrev pub StandsAfter : Compiled → Compiled → ℕ → Outcome → Type 0
 StandsAfter old new seen outcome = (h : History) → StandsFor old h
     → StandsFor new ((seen, number_of outcome) ∷ h)
 
--- The schedule has decided this at that step.
-abbrev pub HasDecided : Compiled → Compiled → ℕ → Outcome → Decision → Type 0
-HasDecided old new seen outcome decision = (h : History) → StandsFor old h → answer (compiled_output
-    new) decision ≡ answer_of (compiled_schedule old) ((seen, number_of outcome) ∷ h)
+-- The schedule has returned this at that step.
+abbrev pub HasDecided : Compiled → ℕ → Outcome → Out × Decision → Type 0
+HasDecided old seen outcome step = (h : History) → StandsFor old h
+    → answer (output_of step.0) step.1
+    ≡ answer_of (compiled_schedule old) ((seen, number_of outcome) ∷ h)
 
 -- the history of the attempts and of the end of the one that has just ended
 abbrev pub ended_history : Progress → Outcome → History
@@ -105,9 +96,9 @@ ended_history p outcome = (p.seen, number_of outcome) ∷ history_after (attempt
 abbrev pub WasAsked : Progress → Outcome → Type 0
 WasAsked p outcome = StandsFor p.schedule (ended_history p outcome)
 
--- this is what the schedule decides for it
-abbrev pub IsDecided : Progress → Outcome → Decision → Type 0
-IsDecided p outcome decision = answer (compiled_output p.schedule) decision
+-- this is what the schedule returns for it
+abbrev pub IsDecided : Progress → Outcome → Out → Decision → Type 0
+IsDecided p outcome out decision = answer (output_of out) decision
     ≡ answer_of (compiled_schedule p.schedule) (ended_history p outcome)
 
 -- the job is over
@@ -134,7 +125,6 @@ pub record StandsStill (old new : Progress) : Type 0 where
   pub progress : IsProgress new
   pub moments : moments_in new ≡ moments_in old
   pub job : job_in new ≡ job_in old
-  pub keeps : keeping_of new.log ≡ keeping_of old.log
   pub seen : new.seen ≡ old.seen
   pub due : due_of new.phase ≡ due_of old.phase
   pub ending : ending_of new.phase ≡ ending_of old.phase

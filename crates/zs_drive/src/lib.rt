@@ -14,19 +14,15 @@
 //! Begin with `specs/Timeline.antt` and `specs/Tasks.antt`.
 #![tactic(auto)]
 
-mod attempt_lines;
 mod fault;
 mod job;
 mod laws;
-mod lines;
-mod log;
 mod progress;
 mod record;
 mod task;
 
-pub use attempt_lines::append_attempt;
 pub use fault::DriveFault;
 pub use job::{Job, Mode};
 pub use laws::{due_polls_suffice, moments_rise, one_timeline, timelines_are_whole};
-pub use record::{Attempted, Ended, Ending, Keeping};
+pub use record::{Attempted, Ended, Ending};
 pub use task::Task;

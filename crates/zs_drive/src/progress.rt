@@ -1,25 +1,22 @@
 //! The steps of a task, over its fields.
-ghost use Rattle.std.specs.Prelude.{◌≡◌, ◌+◌, ◌≤◌, [], ◌∷◌, false, None, Some, OnOk, OnErr, IfOk};
+ghost use Rattle.std.specs.Prelude.{◌≡◌, ◌+◌, ◌≤◌, [], ◌∷◌, None, OnOk, OnErr, IfOk};
 ghost use Rattle.futures.specs.Poll.{IfReady, OnPending};
 ghost use Rattle.futures.specs.Task.{IsArmed, Keeps};
-ghost use Rattle.zs_effect.specs.Scripts.{IsScript, entry_at};
+ghost use Rattle.zs_effect.specs.Scripts.{IsScript};
 ghost use Rattle.zs_drive.specs.Timeline.{ending_by_outcome, ending_by_schedule, number_of};
 ghost use Rattle.zs_step.specs.Compiled.{compiled_term, last_seen};
-ghost use Rattle.zs_drive.specs.Log.{IsFull, keeping_of, log_count};
 ghost use Rattle.zs_drive.specs.Values.{step_of};
 ghost use Rattle.zs_drive.specs.Recorded.{runs};
-ghost use Rattle.zs_drive.specs.Stored.{step_continued};
 ghost use Rattle.zs_drive.specs.Progress.{IsProgress, HasState, due_of, ending_of};
-ghost use Rattle.zs_drive.specs.Turns.{Advances, HasDecided, HasEnded, HasRunTo, IsDecided, IsDuePhase, IsEarly, IsOver, IsSame, IsTurn, IsWaitingTo, StandsAfter, StandsStill, TakesMemory, WasAsked, goes_on, started, turned};
+ghost use Rattle.zs_drive.specs.Turns.{Advances, HasDecided, HasEnded, HasRunTo, IsDecided, IsDuePhase, IsEarly, IsFull, IsOver, IsSame, IsTurn, IsWaitingTo, StandsAfter, StandsStill, TakesMemory, WasAsked, next_entry, started, turned};
 
 use crate::fault::DriveFault;
 use crate::job::Mode;
-use crate::log::Log;
-use crate::record::{Ended, Ending};
+use crate::record::{Attempted, Ended, Ending, add, set_end};
 use futures::task::{Context, Poll};
 use futures::{Future, ready};
 use zs_effect::{Attempt, Beat, Outcome, Script};
-use zs_step::{Compiled, Decision};
+use zs_step::{Compiled, Decision, Stepped};
 use zs_term::Out;
 
 /// What a task waits for.
@@ -47,7 +44,7 @@ pub(crate) struct Progress {
     /// The job's script.
     pub(crate) script: Script,
     /// The attempts so far.
-    pub(crate) log: Log,
+    pub(crate) records: Vec<Attempted>,
     /// Its schedule.
     pub(crate) schedule: Compiled,
     /// The job's name.
@@ -115,9 +112,9 @@ impl Progress {
     #[tactic(auto, using(crate::proofs::Advancing::counts))]
     fn next_beat(&self) -> Beat
         requires progress { IsProgress self.now }
-        ensures value { result ≡ entry_at self.now.script (log_count self.now.log + 1) }
+        ensures value { result ≡ next_entry self.now }
     {
-        self.script.beat(self.log.count() + 1)
+        self.script.beat(self.records.len() as u64 + 1)
     }
 
     // Begins the attempt that was waited for.
@@ -129,28 +126,27 @@ impl Progress {
         requires script { IsScript self.old.script }
         ensures ok { OnOk result (Advances self.old self.new) }
         ensures err { OnErr result (StandsStill self.old self.new) }
-        ensures full { OnErr result (IsFull self.old.log) }
+        ensures full { OnErr result (IsFull self.old.records) }
     {
         let begun = self.seen;
         let beat = self.next_beat();
-        self.log.begin(begun)?;
+        add(&mut self.records, begun)?;
         self.phase = Phase::Running(Attempt::start(beat, begun));
         self.polls += 1;
         Ok(())
     }
 
     // Steps the schedule after an outcome. If that fails, only the schedule's state may be lost.
-    fn step(&mut self, outcome: Outcome) -> Result<Decision, DriveFault>
+    fn step(&mut self, outcome: Outcome) -> Result<(Out, Decision), DriveFault>
         requires past { last_seen self.old.schedule ≤ self.old.seen }
         ensures rest { self.new ≡ record self.old { schedule = self.new.schedule } }
         ensures term { compiled_term self.new.schedule ≡ compiled_term self.old.schedule }
         ensures stands { OnOk result
             (StandsAfter self.old.schedule self.new.schedule self.old.seen outcome) }
-        ensures answered { IfOk result
-            (HasDecided self.old.schedule self.new.schedule self.old.seen outcome) }
+        ensures answered { IfOk result (HasDecided self.old.schedule self.old.seen outcome) }
     {
-        let (decision, _) = self.schedule.advance(self.seen, number(outcome))?;
-        Ok(decision)
+        let Stepped { out, decision, .. } = self.schedule.step(self.seen, number(outcome))?;
+        Ok((out, decision))
     }
 
     // The attempt that ran has ended, with this outcome.
@@ -165,89 +161,73 @@ impl Progress {
     {
         match end_by_outcome(self.mode, outcome) {
             Some(ending) => {
-                self.end(outcome, None, ending);
+                self.end(outcome, None, Phase::Over(ending));
                 Ok(())
             }
             None => {
-                let decision = self.step(outcome)?;
-                self.follow(outcome, decision)
+                let (out, decision) = self.step(outcome)?;
+                self.follow(outcome, out, decision)
             }
         }
     }
 
-    // The schedule has decided this.
-    fn follow(&mut self, outcome: Outcome, decision: Decision) -> Result<(), DriveFault>
+    // The schedule has returned this.
+    fn follow(&mut self, outcome: Outcome, out: Out, decision: Decision) -> Result<(), DriveFault>
         requires progress { IsProgress self.old }
         requires state { WasAsked self.old outcome }
         requires running { HasRunTo self.old.seen outcome self.old.phase }
         requires goes_on { ending_by_outcome self.old.mode outcome ≡ None }
-        requires answer { IsDecided self.old outcome decision }
+        requires answer { IsDecided self.old outcome out decision }
         requires script { IsScript self.old.script }
         ensures ok { OnOk result (Advances self.old self.new) }
         ensures err { OnErr result (StandsStill self.old self.new) }
     {
+        let step = Some((out, decision));
         match decision {
             Decision::Stop => {
-                let out = self.schedule.output()?;
                 let ending = end_by_schedule(self.mode, outcome);
-                self.end(outcome, Some((out, decision)), ending);
+                self.end(outcome, step, Phase::Over(ending));
                 Ok(())
             }
-            Decision::Next(due) if due > self.seen => self.wait(outcome, due),
-            Decision::Next(due) => {
-                let next = self.next_beat();
-                self.restart(outcome, due, next)
+            Decision::Next(due) if due > self.seen => {
+                self.end(outcome, step, Phase::Waiting(due));
+                Ok(())
             }
+            Decision::Next(_) => self.restart(outcome, step),
         }
     }
 
-    // The last attempt ends, and with it the job.
+    // The last attempt ends, and none begins.
     #[tactic(auto, using(crate::proofs::Advancing::counts))]
-    fn end(&mut self, outcome: Outcome, step: Option<(Out, Decision)>, ending: Ending)
+    fn end(&mut self, outcome: Outcome, step: Option<(Out, Decision)>, phase: Phase)
         requires progress { IsProgress self.old }
         requires running { HasRunTo self.old.seen outcome self.old.phase }
-        requires last { step_continued (step_of step) ≡ false }
-        ensures rest { self.new ≡ turned self.old self.new.log (Phase.Over ending) }
-        ensures keeps { keeping_of self.new.log ≡ keeping_of self.old.log }
+        ensures rest { self.new ≡ turned self.old self.new phase }
         ensures ended { HasEnded self.old self.new outcome (step_of step) [] }
     {
         let at = self.seen;
-        self.log.end(Ended { at, outcome, step });
-        self.phase = Phase::Over(ending);
+        let last = self.records.len() - 1;
+        set_end(&mut self.records, last, Ended { at, outcome, step });
+        self.phase = phase;
         self.polls += 1;
-    }
-
-    // The last attempt ends, and the next one begins at a later moment.
-    #[tactic(auto, using(crate::proofs::Advancing::counts))]
-    fn wait(&mut self, outcome: Outcome, due: u64) -> Result<(), DriveFault>
-        requires progress { IsProgress self.old }
-        requires running { HasRunTo self.old.seen outcome self.old.phase }
-        ensures rest { OnOk result (self.new ≡ turned self.old self.new.log (Phase.Waiting due)) }
-        ensures keeps { keeping_of self.new.log ≡ keeping_of self.old.log }
-        ensures ended { OnOk result
-            (HasEnded self.old self.new outcome (goes_on self.old.schedule due) []) }
-        ensures err { OnErr result (StandsStill self.old self.new) }
-    {
-        self.log.pass(self.seen, outcome, due, &self.schedule)?;
-        self.phase = Phase::Waiting(due);
-        self.polls += 1;
-        Ok(())
     }
 
     // The last attempt ends, and the next one begins.
     #[tactic(auto, using(crate::proofs::Advancing::counts))]
-    fn restart(&mut self, outcome: Outcome, due: u64, next: Beat) -> Result<(), DriveFault>
+    fn restart(&mut self, outcome: Outcome, step: Option<(Out, Decision)>) -> Result<(), DriveFault>
         requires progress { IsProgress self.old }
         requires running { HasRunTo self.old.seen outcome self.old.phase }
-        ensures rest { OnOk result
-            (self.new ≡ turned self.old self.new.log (Phase.Running (started next self.old.seen))) }
-        ensures keeps { keeping_of self.new.log ≡ keeping_of self.old.log }
-        ensures ended { OnOk result (HasEnded self.old self.new outcome
-            (goes_on self.old.schedule due) (runs self.old.seen ∷ [])) }
+        ensures rest { OnOk result (self.new ≡ turned self.old self.new
+            (Phase.Running (started (next_entry self.old) self.old.seen))) }
+        ensures ended { OnOk result
+            (HasEnded self.old self.new outcome (step_of step) (runs self.old.seen ∷ [])) }
         ensures err { OnErr result (StandsStill self.old self.new) }
     {
         let at = self.seen;
-        self.log.restart(at, outcome, due, &self.schedule)?;
+        let next = self.next_beat();
+        let last = self.records.len() - 1;
+        add(&mut self.records, at)?;
+        set_end(&mut self.records, last, Ended { at, outcome, step });
         self.phase = Phase::Running(Attempt::start(next, at));
         self.polls += 1;
         Ok(())

@@ -1,16 +1,16 @@
 //! The records of a job's attempts.
+ghost use Rattle.std.specs.Prelude.{◌≡◌, ◌<◌, ◌++◌, [], ◌∷◌, length, map, OnOk, OnErr};
+ghost use Rattle.zs_drive.specs.Values.{attempted_of};
+ghost use Rattle.zs_drive.specs.Recorded.{runs};
+ghost use Rattle.zs_drive.specs.Turns.{HasEnd, IsFull};
+
+use std::alloc::AllocError;
 use zs_effect::Outcome;
 use zs_step::Decision;
 use zs_term::Out;
 
-/// How a task stores its attempts.
-#[derive(Clone, Copy, Debug, PartialEq, Eq)]
-pub enum Keeping {
-    /// A record of each attempt.
-    Records,
-    /// Lines of text for those after which the schedule continued, and a record of any other.
-    Lines,
-}
+// The records that a full list gets room for next, at least.
+const LEAST_ROOM: usize = 4;
 
 /// An attempt, which is running if it has no end.
 #[derive(Drop)]
@@ -41,4 +41,28 @@ pub enum Ending {
     Failed(u64),
     /// The schedule of a repeat is done.
     Finished,
+}
+
+/// Adds the record of an attempt that begins. A full list grows by a quarter, since many tasks have
+/// one at once. Only its growth can fail.
+pub(crate) fn add(records: &mut Vec<Attempted>, begun: u64) -> Result<(), AllocError>
+    ensures begun { OnOk result (map attempted_of records.new.items
+        ≡ map attempted_of records.old.items ++ runs begun ∷ []) }
+    ensures same { OnErr result (records.new.items ≡ records.old.items) }
+    ensures full { OnErr result (IsFull records.old) }
+{
+    if records.len() == records.capacity() {
+        records.reserve_exact(LEAST_ROOM.max(records.len() / 4))?;
+    }
+    records.push(Attempted { begun, ended: None })?;
+    Ok(())
+}
+
+/// Sets the end of the record at this place.
+pub(crate) fn set_end(records: &mut Vec<Attempted>, index: usize, ended: Ended)
+    requires within { index < length records.old.items }
+    ensures ended { HasEnd records.old.items records.new.items index ended }
+{
+    let record = &mut records[index];
+    record.ended = Some(ended);
 }

@@ -4,25 +4,19 @@ ghost use Rattle.futures.specs.Poll.{OnPending};
 ghost use Rattle.futures.specs.Task.{IsArmed, Keeps};
 ghost use Rattle.zs_effect.specs.Scripts.{IsScript};
 ghost use Rattle.zs_drive.specs.Clocks.{AreTicks, max_tick};
-ghost use Rattle.zs_drive.specs.Lines.{attempts_lines};
-ghost use Rattle.zs_drive.specs.Stored.{told_of, recorded_of};
 ghost use Rattle.zs_drive.specs.Values.{job_record, attempted_of};
 ghost use Rattle.zs_drive.specs.Timeline.{poll_moments};
 ghost use Rattle.zs_drive.specs.Tasks.{Breaks, EndsByOutcome, IsNotYetDue, MatchMemory, WasPolled, current_timeline, new_task};
 
 use crate::fault::DriveFault;
 use crate::job::{Job, Mode};
-use crate::log::Log;
 use crate::progress::{Phase, Progress};
-use crate::record::{Attempted, Ending, Keeping};
+use crate::record::{Attempted, Ending};
 use futures::task::{Context, Poll};
 use futures::{Future, ready};
 use std::alloc::Global;
 use std::marker::Model;
 use zs_step::Compiled;
-
-// The greatest moment that a task may see, in milliseconds. A clock has no later tick.
-const MAX_TICK: u64 = 999_999_999_999_999;
 
 /// A numbered job with the attempts so far. A poll that runs out of memory breaks it.
 #[derive(Drop)]
@@ -50,20 +44,10 @@ impl Model for Task {
 }
 
 impl Task {
-    /// Makes the task of a job, which has seen moment 0 and stores the record of each attempt. If
-    /// memory runs out, it returns `Memory`, and the job is dropped.
+    /// Makes the task of a job, which has seen moment 0. If memory runs out, it returns `Memory`,
+    /// and the job is dropped.
     pub fn new(alloc: Global, number: u64, job: Job) -> Result<Task, DriveFault>
-        ensures made { IfOk result (λ task.
-            task ≡ new_task number (job_record job) Keeping.Records) }
-        ensures script { IfOk result (λ task. IsScript task.job.script) }
-        ensures memory { IfErr result (λ fault. fault ≡ DriveFault.Memory) }
-    {
-        Task::keeping(alloc, number, job, Keeping::Records)
-    }
-
-    /// Makes a task that stores its attempts in this way.
-    pub fn keeping(alloc: Global, number: u64, job: Job, keeps: Keeping) -> Result<Task, DriveFault>
-        ensures made { IfOk result (λ task. task ≡ new_task number (job_record job) keeps) }
+        ensures made { IfOk result (λ task. task ≡ new_task number (job_record job)) }
         ensures script { IfOk result (λ task. IsScript task.job.script) }
         ensures memory { IfErr result (λ fault. fault ≡ DriveFault.Memory) }
     {
@@ -81,7 +65,7 @@ impl Task {
             start,
             script,
             schedule,
-            log: Log::new(alloc, keeps),
+            records: Vec::new(alloc),
             phase: Phase::Waiting(start),
             polls: 0,
             seen: 0,
@@ -124,36 +108,17 @@ impl Task {
         self.progress.polls
     }
 
-    /// The records of its attempts so far, in order: of all if it stores records, else of the one
-    /// that is running or ended the job.
+    /// The records of its attempts so far, in order.
     #[tactic(auto, using(crate::proofs::Standing::standing))]
     pub fn records(&self) -> &[Attempted]
-        ensures attempts { map attempted_of result.now
-            ≡ recorded_of self.now.keeps (current_timeline self.now).attempts }
+        ensures attempts { map attempted_of result.now ≡ (current_timeline self.now).attempts }
         ensures moments { self.now.moments ≡ poll_moments (current_timeline self.now).attempts }
         ensures clock { AreTicks self.now.moments }
         ensures script { IsScript self.now.job.script }
-    {
-        self.progress.log.records()
-    }
-
-    /// The lines of the attempts of which it stores no records.
-    pub fn lines(&self) -> &str
-        ensures told { result.now
-            ≡ attempts_lines 1 (told_of self.now.keeps (current_timeline self.now).attempts) }
-    {
-        self.progress.log.lines()
-    }
-
-    /// The number of attempts that these lines show.
-    #[tactic(auto, using(crate::proofs::Standing::standing))]
-    pub fn told_count(&self) -> u64
-        ensures value { result
-            ≡ length (told_of self.now.keeps (current_timeline self.now).attempts) }
         // At each tick at most one attempt begins.
-        ensures few { length (current_timeline self.now).attempts ≤ max_tick + 1 }
+        ensures few { length result.now ≤ max_tick + 1 }
     {
-        self.progress.log.told_count()
+        self.progress.records.as_slice()
     }
 
     /// How the job ended, if it has. That of a broken task has not.
@@ -209,7 +174,6 @@ impl Future for Task {
             → EndsByOutcome self.old ending → result ≡ Poll.Ready (Ok ending) }
         ensures same { (self.new.number ≡ self.old.number) × (self.new.job ≡ self.old.job)
             × (self.new.seen ≡ self.old.seen) }
-        ensures keeps { self.new.keeps ≡ self.old.keeps }
         ensures armed { OnPending result (IsArmed cx.new) }
         ensures kept { Keeps cx.old cx.new }
     {

@@ -5,11 +5,10 @@ use Rattle.zs_effect.specs.declared.script.Beat.{Beat}
 use Rattle.zs_effect.specs.declared.script.Outcome.TheVariants.{Good}
 use Rattle.zs_effect.specs.declared.script.ScriptFault.{ScriptFault}
 use Rattle.zs_effect.specs.declared.script.ScriptFault.TheVariants.{Empty, TooLong, ZeroMs}
-use Rattle.zs_effect.specs.declared.script.TheConstants.{MAX_BEATS}
 
 -- the greatest number of entries
 abbrev pub max_beats : ℕ
-max_beats = MAX_BEATS
+max_beats = 1000
 
 -- a script: 1 to `max_beats` entries of at least 1 ms each
 pub record IsScript (beats : List Beat) : Type 0 where

@@ -1,14 +1,14 @@
 -- An engine before the first round, in a round, and after the last one.
-use Rattle.std.proofs.Common.{◌≡◌, ◌<◌, ◌≤◌, ◌+◌, ◌*◌, ◌-◌, ◌++◌, ◌∷◌, [], ℕ, false, List, Option, Some, None, length, length-append, refl, ap, ◌∙◌, arith, slice_get, slice_index_or}
+use Rattle.std.proofs.Common.{◌≡◌, ◌<◌, ◌≤◌, ◌+◌, ◌*◌, ◌-◌, ◌++◌, ◌∷◌, [], ℕ, false, List, Option, Some, None, length, length-append, refl, ap, ◌∙◌, arith}
 use Rattle.std.specs.FinMap as map_of
 use Rattle.std.proofs.Math.Nat.{mul-le-mul_right}
 use Rattle.std.proofs.lemmas.Grind.{flat_map-append}
-use Rattle.std.proofs.lemmas.Option.{slice_get_read, slice_get_within}
 use Rattle.atomic_table.specs.Seated.{TableId}
 use Rattle.zs_agenda.specs.Ticks.{Ticks, IsClock, horizon}
 use Rattle.zs_agenda.specs.Timers.{Timers, IsAfter}
 use Rattle.zs_term.specs.Saturating.{max_moment}
 use Rattle.zs_effect.specs.Scripts.{IsScript}
+use Rattle.zs_drive.specs.Values.{JobRecord}
 use Rattle.zs_drive.specs.Tasks.{TaskValue, current_timeline}
 use Rattle.zs_pool.specs.Limits.{max_tasks}
 use Rattle.zs_pool.specs.Shares.{HasCounted}
@@ -16,10 +16,10 @@ use Rattle.zs_pool.specs.Tally.{Seating}
 use Rattle.zs_engine.specs.declared.engine.Engine.{Engine}
 use Rattle.zs_engine.specs.Times.{ticks_of, next_of}
 use Rattle.zs_engine.specs.Slots.{Slots, Picks}
-use Rattle.zs_engine.specs.Rounds.{KeptJob, kept_of, jobs_in, set_next}
+use Rattle.zs_engine.specs.Rounds.{job_of, jobs_in, set_next}
 use Rattle.zs_engine.specs.Engine.{Runs, IsNew, IsDueAt}
 use Rattle.zs_engine.proofs.ClockTicks.{ticks-rising}
-use Rattle.zs_engine.proofs.RoundLemmas.{taken-set_next, waits-none, waits-push, begins-next, due-few, due-room}
+use Rattle.zs_engine.proofs.RoundLemmas.{taken-set_next, waits-none, waits-push, due-few, due-room}
 use Rattle.zs_engine.proofs.SlotLemmas.{length-slots}
 
 -- an engine of no jobs
@@ -46,18 +46,18 @@ IsNew-none engine lawful is_horizon none unset seat =
     }
 
 -- one more job
-pub jobs-add : (before after : Slots) (job : KeptJob) (task : TaskValue) (n : ℕ) → task ≡ record { number = n; job = job.0; keeps = job.1; moments = []; seen = 0; broken = false }
+pub jobs-add : (before after : Slots) (job : JobRecord) (task : TaskValue) (n : ℕ) → task ≡ record { number = n; job = job; moments = []; seen = 0; broken = false }
     → after ≡ before ++ Some task ∷ [] → jobs_in after ≡ jobs_in before ++ job ∷ []
-jobs-add before after job task n made pushed = ap jobs_in pushed ∙ flat_map-append _ before (Some task ∷ []) ∙ ap (λ (t : TaskValue). jobs_in before ++ kept_of t ∷ []) made
+jobs-add before after job task n made pushed = ap jobs_in pushed ∙ flat_map-append _ before (Some task ∷ []) ∙ ap (λ (t : TaskValue). jobs_in before ++ job_of t ∷ []) made
 
-pub IsNew-add : (old new : Engine) (job : KeptJob) (task : TaskValue) (n : ℕ) → IsNew old → length (jobs_in old.slots.items) < max_tasks
-    → task ≡ record { number = n; job = job.0; keeps = job.1; moments = []; seen = 0; broken = false } → new.slots.items ≡ old.slots.items ++ Some task ∷ []
+pub IsNew-add : (old new : Engine) (job : JobRecord) (task : TaskValue) (n : ℕ) → IsNew old → length (jobs_in old.slots.items) < max_tasks
+    → task ≡ record { number = n; job = job; moments = []; seen = 0; broken = false } → new.slots.items ≡ old.slots.items ++ Some task ∷ []
     → n ≡ length old.slots.items → IsScript task.job.script → new ≡ record old { slots = new.slots; agenda = new.agenda }
     → new.agenda ≡ set_next old.agenda task.number (next_of (ticks_of old.clock) (current_timeline task).due) → IsNew new
 IsNew-add old new job task n h few made pushed at script same set =
     let runs = h.rests.runs in
     let jobs = jobs-add old.slots.items new.slots.items job task n made pushed in
-    let most : length (jobs_in new.slots.items) ≤ max_tasks = omega (arith, few, length-append (jobs_in old.slots.items) (job ∷ []), ap (λ (js : List KeptJob). length js) jobs) in
+    let most : length (jobs_in new.slots.items) ≤ max_tasks = omega (arith, few, length-append (jobs_in old.slots.items) (job ∷ []), ap (λ (js : List JobRecord). length js) jobs) in
     let added = waits-push task (ticks-rising old.clock runs.lawful).0 (rw h.uncounted at h.rests.rests) (rw made at) (rw made refl) (rw made refl) (rw made refl) script in
     rw same (record {
       rests = record {
@@ -69,7 +69,7 @@ IsNew-add old new job task n h few made pushed at script same set =
     })
 
 -- n polls were counted
-pub Runs-counted : {clock : Ticks} {end : ℕ} {jobs : List KeptJob} {tally : TableId} {seat after : Seating} (n : ℕ) → Runs clock end jobs tally seat → HasCounted seat n after → Runs clock end jobs tally after
+pub Runs-counted : {clock : Ticks} {end : ℕ} {jobs : List JobRecord} {tally : TableId} {seat after : Seating} (n : ℕ) → Runs clock end jobs tally seat → HasCounted seat n after → Runs clock end jobs tally after
 Runs-counted n runs counted = record {
   lawful = runs.lawful;
   is_horizon = runs.is_horizon;
@@ -91,11 +91,6 @@ module _ {now : ℕ} {numbers : List ℕ} (old : Engine) (h : IsDueAt now number
   allowed workers n many few =
       let room = due-room h.begins (ticks-rising old.clock h.runs.lawful).0 slots-few in
       let most : workers * n ≤ 64 * n = mul-le-mul_right n many in omega (arith, most, few, room, h.runs.sum)
-
--- what is read from the slot of a due task
-pub due-read : {now n : ℕ} {left : List ℕ} (old : Engine) (slot : Option TaskValue) → IsDueAt now (n ∷ left) old → slot ≡ slice_index_or old.slots.items n slot → slice_get old.slots.items n ≡ Some slot
-due-read {n = n} old slot h read =
-    let next = begins-next h.begins in slice_get_read old.slots.items (length old.slots.items) n slot refl (slice_get_within old.slots.items n (Some next.0) next.1) read
 
 -- ---- the whole run
 -- the greatest number of moments that remain

@@ -3,18 +3,15 @@ use Rattle.std.proofs.Common.{◌≡◌, ◌+◌, ℕ, suc, false, List, [], ◌
 use Rattle.std.proofs.lemmas.List.{length-map}
 use Rattle.std.proofs.lemmas.List.Elements.{All-from_recursion}
 use Rattle.std.proofs.lemmas.List.Sums.{sum_by-cons}
-use Rattle.std.proofs.lemmas.Simd.{map-map}
 use Rattle.std.specs.List.{AllByRecursion}
 use Rattle.std.specs.FinMap as map_of
 use Rattle.zs_agenda.specs.Timers.{Timers, Moments}
 use Rattle.zs_agenda.specs.Ticks.{Ticks, horizon}
-use Rattle.zs_drive.specs.declared.job.Job.{Job}
-use Rattle.zs_drive.specs.declared.record.Keeping.{Keeping}
 use Rattle.zs_drive.specs.Timeline.{Timeline, timeline_of, poll_moments}
 use Rattle.zs_drive.specs.Tasks.{TaskValue, current_timeline}
 use Rattle.zs_engine.specs.declared.answer.Answer.{Answer}
 use Rattle.zs_engine.specs.Times.{moments_from, ticks_of, next_of}
-use Rattle.zs_engine.specs.Rounds.{Waits, KeptJob, job_kept, job_alone, kept_of, jobs_in, next_in, polls_of, polls_in}
+use Rattle.zs_engine.specs.Rounds.{Waits, jobs_in, next_in, polls_of, polls_in}
 use Rattle.zs_engine.specs.Answers.{IsAnswer, poll_moments_of, poll_count_of}
 use Rattle.zs_engine.proofs.KeepingUp.{keeps_up-to}
 use Rattle.zs_engine.proofs.SlotLemmas.{full, jobs_in-full}
@@ -47,7 +44,7 @@ module _ (ticks : List ℕ) where
       }
 
 pub answered : (clock : Ticks) (answer : Answer) (a : Timers) → Waits (ticks_of clock) (full answer.tasks.items) a answer.polls [] → a.moments ≡ map_of.empty
-    → answer.horizon ≡ horizon clock → IsAnswer clock (map job_alone (jobs_in (full answer.tasks.items))) answer
+    → answer.horizon ≡ horizon clock → IsAnswer clock (jobs_in (full answer.tasks.items)) answer
 answered clock answer a w empty last =
     let ts : List TaskValue = answer.tasks.items in
     let ends : Ends (ticks_of clock) 0 ts = (λ i t e.
@@ -56,8 +53,7 @@ answered clock answer a w empty last =
     let same = keeps_up-to (ticks_of clock) t k.0 _ refl none in
     (omega (arith, k.1), same, k.0.whole, k.0.kept ∙ ap (λ (timeline : Timeline). poll_moments timeline.attempts) same)) in
     let all = all-end (ticks_of clock) 0 ts ends in
-    let jobs : map job_alone (jobs_in (full ts)) ≡ map (λ t. t.job) ts = ap (map job_alone) (jobs_in-full ts) ∙ map-map job_alone kept_of ts in
-    rw jobs (record {
+    rw (jobs_in-full ts) (record {
       numbered = all.numbered ∙ ap (moments_from 0) (sym (length-map ts (λ (t : TaskValue). t.job)));
       same_jobs = refl;
       whole = All-from_recursion (λ (t : TaskValue). t.broken ≡ false) ts all.whole;
@@ -66,12 +62,3 @@ answered clock answer a w empty last =
       polls = w.counted ∙ all.polls;
       last = last;
     })
-
--- each task stores its attempts as it was made to
-pub all-keep : (keeps : Keeping) (ts : List TaskValue) (jobs : List Job) → map kept_of ts ≡ map (job_kept keeps) jobs → AllByRecursion (λ (t : TaskValue). t.keeps ≡ keeps) ts
-all-keep keeps [] jobs same = tt
-all-keep keeps (t ∷ ts) [] same = cc
-all-keep keeps (t ∷ ts) (job ∷ jobs) same =
-    let first : kept_of t ≡ job_kept keeps job = cc in
-    let rest : map kept_of ts ≡ map (job_kept keeps) jobs = cc in
-    (ap (λ (k : KeptJob). k.1) first, all-keep keeps ts jobs rest)

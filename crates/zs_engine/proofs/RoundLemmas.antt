@@ -175,15 +175,9 @@ module _ {ticks : List ℕ} {slots : Slots} {a : Timers} {count now : ℕ} {numb
 
 -- ---- one due poll
 module _ {ticks : List ℕ} {slots : Slots} {a : Timers} {count now n : ℕ} {left : List ℕ} (b : Begins ticks slots a count now (n ∷ left)) where
-  pub begins-next : (t : TaskValue) × (slice_get slots n ≡ Some (Some t))
-  begins-next = let t = due-task b n (has-first n left) in (t.0, t.1)
-
   module _ (t : TaskValue) (here : slice_get slots n ≡ Some (Some t)) where
     polled : KeepsUp ticks (polled_at now t) × IsPollable now t × AllBefore t.moments now
     polled = due-polled b n t (has-first n left) here
-
-    pub begins-pollable : IsPollable now t
-    begins-pollable = polled.1
 
     pub begins-unset : map_of.get a.moments t.number ≡ None
     begins-unset = rw (b.waits.each n t here).1 (rw (has-first n left) at (b.waits.timer n))

@@ -3,11 +3,12 @@ use Rattle.std.proofs.Common.{◌≡◌, ◌<◌, ◌+◌, ℕ, List, [], ◌∷
 use Rattle.std.specs.FinMap.{get}
 use Rattle.std.proofs.lemmas.Option.{slice_get_within}
 use Rattle.zs_agenda.specs.Timers.{Timers}
+use Rattle.zs_drive.specs.Values.{JobRecord}
 use Rattle.zs_drive.specs.Tasks.{TaskValue, current_timeline}
 use Rattle.zs_pool.specs.Rounds.{polled_at}
 use Rattle.zs_engine.specs.Times.{next_of, IsLater}
 use Rattle.zs_engine.specs.Slots.{Slots, Picks, emptied, IsDistinct}
-use Rattle.zs_engine.specs.Rounds.{Waits, Begins, KeptJob, jobs_in, set_next}
+use Rattle.zs_engine.specs.Rounds.{Waits, Begins, jobs_in, set_next}
 use Rattle.zs_engine.proofs.RoundLemmas.{begins-unset, begins-later, begins-onward}
 use Rattle.zs_engine.proofs.SlotLemmas.{jobs_in-set, picks-set, emptied-put, length-emptied}
 
@@ -15,7 +16,7 @@ abbrev pub numbers_of : List TaskValue → List ℕ
 numbers_of ts = map (λ t. t.number) ts
 
 -- While the tasks are put back, `waits` remain. `whole` has the slots with them as they were.
-pub record Settling (ticks : List ℕ) (now : ℕ) (jobs : List KeptJob) (slots : Slots) (a : Timers) (waits rest : List TaskValue) (count : ℕ) : Type 0 where
+pub record Settling (ticks : List ℕ) (now : ℕ) (jobs : List JobRecord) (slots : Slots) (a : Timers) (waits rest : List TaskValue) (count : ℕ) : Type 0 where
   pub whole : Slots
   pub before : ℕ
   pub begins : Begins ticks whole a before now (numbers_of waits)
@@ -27,13 +28,13 @@ pub record Settling (ticks : List ℕ) (now : ℕ) (jobs : List KeptJob) (slots 
   pub counted : count ≡ before + length waits
 
 -- the next task that is put back
-pub record Next (ticks : List ℕ) (now : ℕ) (jobs : List KeptJob) (slots : Slots) (a : Timers) (t : TaskValue) (more : List TaskValue) (count : ℕ) : Type 0 where
+pub record Next (ticks : List ℕ) (now : ℕ) (jobs : List JobRecord) (slots : Slots) (a : Timers) (t : TaskValue) (more : List TaskValue) (count : ℕ) : Type 0 where
   pub in_range : t.number < length slots
   pub unset : get a.moments t.number ≡ None
   pub later : IsLater a.last_taken (next_of ticks (current_timeline t).due)
   pub onward : (waits : List TaskValue) × Settling ticks now jobs (slice_set slots t.number (Some t)) (set_next a t.number (next_of ticks (current_timeline t).due)) waits more count
 
-module _ {ticks : List ℕ} {now : ℕ} {jobs : List KeptJob} {slots : Slots} {a : Timers} {count : ℕ} where
+module _ {ticks : List ℕ} {now : ℕ} {jobs : List JobRecord} {slots : Slots} {a : Timers} {count : ℕ} where
   pub settling-next : (waits : List TaskValue) (t : TaskValue) (more : List TaskValue) → Settling ticks now jobs slots a waits (t ∷ more) count → Next ticks now jobs slots a t more count
   settling-next [] t more s = cc (s.rest_is)
   settling-next (w ∷ waits) t more s =

@@ -15,7 +15,7 @@ use Rattle.zs_drive.specs.Tasks.{TaskValue}
 use Rattle.zs_pool.proofs.Places.{get_set, get_else}
 use Rattle.zs_pool.specs.Rounds.{polled_at}
 use Rattle.zs_engine.specs.Slots.{Slots, emptied, has, IsDistinct}
-use Rattle.zs_engine.specs.Rounds.{kept_of, jobs_in, polls_of, polls_in}
+use Rattle.zs_engine.specs.Rounds.{job_of, jobs_in, polls_of, polls_in}
 
 abbrev pub full : List TaskValue → Slots
 full ts = map (λ t. Some t) ts
@@ -82,12 +82,12 @@ polls_in-set slots n now t e =
     omega (arith, sum_by-set polls_of slots n (Some (polled_at now t)) None (slice_get_within slots n (Some t) e), was, length-append t.moments (now ∷ []))
 
 -- ---- slots of which none is empty
-pub jobs_in-full : (ts : List TaskValue) → jobs_in (full ts) ≡ map kept_of ts
-jobs_in-full ts = flat_map-map (λ slot. option_to_list (option_map kept_of slot)) (λ t. Some t) ts ∙ flat_map_single kept_of ts
+pub jobs_in-full : (ts : List TaskValue) → jobs_in (full ts) ≡ map job_of ts
+jobs_in-full ts = flat_map-map (λ slot. option_to_list (option_map job_of slot)) (λ t. Some t) ts ∙ flat_map_single job_of ts
 
 -- the number of slots is that of jobs
 pub length-slots : (slots : Slots) (ts : List TaskValue) → slots ≡ full ts → length slots ≡ length (jobs_in slots)
-length-slots slots ts same = rw (same, jobs_in-full ts) (length-map ts (λ t. Some t) ∙ sym (length-map ts kept_of))
+length-slots slots ts same = rw (same, jobs_in-full ts) (length-map ts (λ t. Some t) ∙ sym (length-map ts job_of))
 
 -- ---- the slots of a round
 -- another slot has no influence

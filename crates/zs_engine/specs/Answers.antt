@@ -2,7 +2,6 @@
 -- Workers, batches, gates and timers have no influence on it. Readers of `run_jobs` trust this file
 -- and what it names of zs_drive.
 use Rattle.std.specs.Prelude.{◌≡◌, ℕ, ◌+◌, false, List, [], ◌∷◌, All, length, map}
-use Rattle.zs_drive.specs.declared.record.Keeping.{Keeping}
 use Rattle.zs_drive.specs.Values.{JobRecord}
 use Rattle.zs_drive.specs.Timeline.{timeline_of, poll_moments}
 use Rattle.zs_drive.specs.Tasks.{TaskValue, current_timeline}
@@ -31,7 +30,3 @@ pub record IsAnswer (clock : Ticks) (jobs : List JobRecord) (answer : Answer) : 
       ≡ map (poll_moments_of (ticks_of clock)) jobs
   pub polls : answer.polls ≡ poll_count_of (ticks_of clock) jobs
   pub last : answer.horizon ≡ horizon clock
-
--- each task stores its attempts in this way
-abbrev pub AllKeep : Keeping → Answer → Type 0
-AllKeep keeps answer = All (λ (task : TaskValue). task.keeps ≡ keeps) answer.tasks.items

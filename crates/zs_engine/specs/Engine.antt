@@ -7,13 +7,14 @@ use Rattle.zs_agenda.specs.Ticks.{Ticks, IsClock, horizon}
 use Rattle.zs_pool.specs.Limits.{max_tasks}
 use Rattle.zs_pool.specs.Tally.{Seating}
 use Rattle.zs_term.specs.Saturating.{max_moment}
+use Rattle.zs_drive.specs.Values.{JobRecord}
 use Rattle.zs_engine.specs.declared.engine.Engine.{Engine}
 use Rattle.zs_engine.specs.Times.{ticks_of}
-use Rattle.zs_engine.specs.Rounds.{Waits, Begins, KeptJob, jobs_in}
+use Rattle.zs_engine.specs.Rounds.{Waits, Begins, jobs_in}
 
 -- The clock is valid and its horizon is `end`, one round may poll all of the jobs, and only this
 -- seat counts.
-pub record Runs (clock : Ticks) (end : ℕ) (jobs : List KeptJob)
+pub record Runs (clock : Ticks) (end : ℕ) (jobs : List JobRecord)
     (tally : TableId) (seat : Seating) : Type 0 where
   pub lawful : IsClock clock
   pub is_horizon : end ≡ horizon clock

@@ -10,9 +10,7 @@ use Rattle.zs_agenda.specs.Ticks.{Ticks}
 use Rattle.zs_agenda.specs.Timers.{Timers}
 use Rattle.zs_effect.specs.Scripts.{IsScript}
 use Rattle.zs_drive.specs.Clocks.{RisesFrom, AllBefore, max_tick}
-use Rattle.zs_drive.specs.declared.job.Job.{Job}
-use Rattle.zs_drive.specs.declared.record.Keeping.{Keeping}
-use Rattle.zs_drive.specs.Values.{JobRecord, job_record}
+use Rattle.zs_drive.specs.Values.{JobRecord}
 use Rattle.zs_drive.specs.Timeline.{timeline_of, poll_moments}
 use Rattle.zs_drive.specs.Tasks.{TaskValue, current_timeline}
 use Rattle.zs_engine.specs.Times.{ticks_of, next_of}
@@ -73,25 +71,13 @@ pub record Begins (ticks : List ℕ) (slots : Slots)
   pub is_taken : timers.last_taken ≡ Some now
   pub due : (i : ℕ) → has i left ≡ true → next_in ticks (slice_get slots i) ≡ Some now
 
--- a job, and how its task stores its attempts
-abbrev pub KeptJob : Type 0
-KeptJob = JobRecord × Keeping
-
--- the value of a job whose task stores its attempts in this way
-abbrev pub job_kept : Keeping → Job → KeptJob
-job_kept keeps job = (job_record job, keeps)
-
--- the job without how its attempts are stored
-abbrev pub job_alone : KeptJob → JobRecord
-job_alone kept = kept.0
-
--- the job of a task, with how it stores its attempts
-abbrev pub kept_of : TaskValue → KeptJob
-kept_of task = (task.job, task.keeps)
+-- the job of a task
+abbrev pub job_of : TaskValue → JobRecord
+job_of task = task.job
 
 -- the jobs of the tasks in the slots
-abbrev pub jobs_in : Slots → List KeptJob
-jobs_in slots = flat_map (λ slot. option_to_list (option_map kept_of slot)) slots
+abbrev pub jobs_in : Slots → List JobRecord
+jobs_in slots = flat_map (λ slot. option_to_list (option_map job_of slot)) slots
 
 -- the timers after a job's is armed for a tick, if there is one
 abbrev pub set_next : Timers → ℕ → Option ℕ → Timers

@@ -3,9 +3,10 @@ ghost use Rattle.std.specs.Prelude.{◌≡◌, ℕ, ◌≤◌, ◌<◌, List, []
 ghost use Rattle.std.specs.FinMap.{empty, get};
 ghost use Rattle.zs_term.specs.Saturating.{max_moment};
 ghost use Rattle.zs_drive.specs.Tasks.{TaskValue};
+ghost use Rattle.zs_drive.specs.Values.{job_record};
 ghost use Rattle.zs_pool.specs.Limits.{max_tasks};
 ghost use Rattle.zs_engine.specs.Times.{IsLater};
-ghost use Rattle.zs_engine.specs.Rounds.{job_alone, job_kept, jobs_in, kept_of, next_tick_of, set_next};
+ghost use Rattle.zs_engine.specs.Rounds.{jobs_in, next_tick_of, set_next};
 ghost use Rattle.zs_engine.specs.Answers.{IsAnswer};
 
 use crate::answer::Answer;
@@ -16,8 +17,8 @@ use std::mem::drop;
 use std::sync::Wait;
 use std::thread::Threads;
 use zs_agenda::{Agenda, Clock};
-use zs_drive::{Job, Keeping, Task};
-use zs_pool::{Cut, Gate, Poller, Polling, Tally, TallySeat, poll_one, round};
+use zs_drive::{Job, Task};
+use zs_pool::{Cut, Gate, Poller, Polling, Tally, TallySeat, round_in};
 
 // A run of jobs: a slot with the task of each job, a timer for each task that waits for a tick, and
 // the tally of the polls.
@@ -100,16 +101,16 @@ impl Engine {
         })
     }
 
-    // Adds a job, whose task stores its attempts in this way.
-    fn add(&mut self, job: Job, keeps: Keeping) -> Result<(), EngineFault>
+    // Adds a job.
+    fn add(&mut self, job: Job) -> Result<(), EngineFault>
         requires few { length (jobs_in self.old.slots.items) < max_tasks }
         requires new { IsNew self.old }
         ensures new { OnOk result (IsNew self.new) }
         ensures clock { OnOk result (self.new.clock ≡ self.old.clock) }
         ensures jobs { OnOk result (jobs_in self.new.slots.items
-            ≡ jobs_in self.old.slots.items ++ job_kept keeps job ∷ []) }
+            ≡ jobs_in self.old.slots.items ++ job_record job ∷ []) }
     {
-        let task = Task::keeping(self.alloc, self.slots.len() as u64, job, keeps)?;
+        let task = Task::new(self.alloc, self.slots.len() as u64, job)?;
         set_timer(&self.clock, &mut self.agenda, &task)?;
         self.slots.push(Some(task))?;
         Ok(())
@@ -135,52 +136,12 @@ impl Engine {
         Ok(())
     }
 
-    // The due poll of the task in this slot. The task stays there, and its timer is set again.
-    fn poll_slot<G: Gate>(
-        &mut self,
-        polling: &mut Polling<'_, G>,
-        now: u64,
-        number: u64,
-    ) -> Result<(), EngineFault>
-        requires due { (left : List ℕ) × IsDueAt now (number ∷ left) self.old }
-        ensures onward { OnOk result
-            ((left : List ℕ) → IsDueAt now (number ∷ left) self.old → IsDueAt now left self.new) }
-        ensures same { OnOk result (IsSameRun self.old self.new) }
-    {
-        let Some(task) = &mut self.slots[number as usize] else {
-            unreachable!();
-        };
-        poll_one(polling, &self.tally, &mut self.seat, now, task);
-        if task.broken() {
-            return Err(EngineFault::Memory);
-        }
-        set_timer(&self.clock, &mut self.agenda, task)?;
-        Ok(())
-    }
-
-    // A round of the calling thread alone: it polls the tasks that are due at `now` in their slots.
-    fn poll_round<G: Gate>(
-        &mut self,
-        polling: &mut Polling<'_, G>,
-        now: u64,
-        numbers: &[u64],
-    ) -> Result<(), EngineFault>
-        requires due { IsDueAt now numbers.now self.old }
-        ensures round { OnOk result (HasRunRound now self.old self.new) }
-    {
-        for place in 0..numbers.len() {
-            self.poll_slot(polling, now, numbers[place])?;
-        }
-        Ok(())
-    }
-
-    // A round that several workers share: the tasks that are due at `now` are taken out, polled,
-    // and put back.
-    fn share_round<G: Gate, R: Threads + Wait + Sync>(
+    // One round: the tasks that are due at `now` are taken out, polled, and put back.
+    fn run_round<G: Gate, R: Threads + Wait + Sync>(
         &mut self,
         rt: &R,
         cut: Cut,
-        gate: &G,
+        polling: &mut Polling<'_, G>,
         now: u64,
         numbers: &[u64],
     ) -> Result<(), EngineFault>
@@ -188,16 +149,7 @@ impl Engine {
         ensures round { OnOk result (HasRunRound now self.old self.new) }
     {
         let due = take_tasks(self.alloc, &mut self.slots, numbers)?;
-        let polled = match round(
-            rt,
-            self.alloc,
-            cut,
-            gate,
-            &self.tally,
-            &mut self.seat,
-            now,
-            due,
-        ) {
+        let polled = match round_in(rt, cut, polling, &self.tally, &mut self.seat, now, due) {
             Ok(polled) => polled,
             Err(fault) => return Err(round_fault(fault)),
         };
@@ -207,33 +159,11 @@ impl Engine {
         Ok(())
     }
 
-    // One round: the tasks that are due at `now` are polled. If there is one worker or one batch,
-    // this thread polls them alone.
-    fn run_round<G: Gate, R: Threads + Wait + Sync>(
-        &mut self,
-        rt: &R,
-        cut: Cut,
-        gate: &G,
-        now: u64,
-        numbers: &[u64],
-        polling: &mut Polling<'_, G>,
-    ) -> Result<(), EngineFault>
-        requires due { IsDueAt now numbers.now self.old }
-        ensures round { OnOk result (HasRunRound now self.old self.new) }
-    {
-        if cut.is_for_one(numbers.len() as u64) {
-            self.poll_round(polling, now, numbers)
-        } else {
-            self.share_round(rt, cut, gate, now, numbers)
-        }
-    }
-
     // The rounds, under one context.
     fn run_all<G: Gate, R: Threads + Wait + Sync>(
         &mut self,
         rt: &R,
         cut: Cut,
-        gate: &G,
         polling: &mut Polling<'_, G>,
     ) -> Result<(), EngineFault>
         requires rests { IsResting self.old }
@@ -242,7 +172,7 @@ impl Engine {
         ensures over { OnOk result (self.new.agenda.moments ≡ empty) }
     {
         while let Some((now, numbers)) = self.agenda.take()? {
-            self.run_round(rt, cut, gate, now, &numbers, polling)?;
+            self.run_round(rt, cut, polling, now, &numbers)?;
         }
         Ok(())
     }
@@ -254,36 +184,31 @@ impl Engine {
         cut: Cut,
         gate: &G,
         jobs: Vec<Job>,
-        keeps: Keeping,
     ) -> Result<(), EngineFault>
         requires few { length jobs.items ≤ max_tasks }
         requires new { IsNew self.old }
         requires empty { self.old.slots.items ≡ [] }
         ensures rests { OnOk result (IsResting self.new) }
         ensures clock { OnOk result (self.new.clock ≡ self.old.clock) }
-        ensures jobs { OnOk result
-            (jobs_in self.new.slots.items ≡ map (job_kept keeps) jobs.items) }
+        ensures jobs { OnOk result (jobs_in self.new.slots.items ≡ map job_record jobs.items) }
         ensures over { OnOk result (self.new.agenda.moments ≡ empty) }
     {
         for job in jobs {
-            self.add(job, keeps)?;
+            self.add(job)?;
         }
         let poller = match Poller::new(self.alloc) {
             Ok(poller) => poller,
             Err(fault) => return Err(round_fault(fault)),
         };
         let mut polling = poller.begin(gate);
-        self.run_all(rt, cut, gate, &mut polling)
+        self.run_all(rt, cut, &mut polling)
     }
 
     // The tasks in job order, with the closed tally.
     pub(crate) fn finish(self) -> Result<Answer, EngineFault>
         requires rests { IsResting self }
         requires over { self.agenda.moments ≡ empty }
-        ensures answer { IfOk result
-            (IsAnswer self.clock (map job_alone (jobs_in self.slots.items))) }
-        ensures jobs { IfOk result (λ answer.
-            map kept_of answer.tasks.items ≡ jobs_in self.slots.items) }
+        ensures answer { IfOk result (IsAnswer self.clock (jobs_in self.slots.items)) }
     {
         let tasks = into_tasks(self.alloc, self.slots)?;
         Ok(Answer {

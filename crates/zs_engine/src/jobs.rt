@@ -3,7 +3,7 @@
 ghost use Rattle.std.specs.Prelude.{◌≤◌, length, map, IfOk};
 ghost use Rattle.zs_drive.specs.Values.{job_record};
 ghost use Rattle.zs_pool.specs.Limits.{max_tasks};
-ghost use Rattle.zs_engine.specs.Answers.{AllKeep, IsAnswer};
+ghost use Rattle.zs_engine.specs.Answers.{IsAnswer};
 
 use crate::answer::Answer;
 use crate::engine::Engine;
@@ -12,31 +12,11 @@ use std::alloc::Global;
 use std::sync::Wait;
 use std::thread::Threads;
 use zs_agenda::Clock;
-use zs_drive::{Job, Keeping};
+use zs_drive::Job;
 use zs_pool::{Cut, Gate};
 
-/// Like `run_jobs`, with tasks that store their attempts as `keeps` says. Lines take less memory.
-pub fn run_keeping<G: Gate, R: Threads + Wait + Sync>(
-    rt: &R,
-    alloc: Global,
-    cut: Cut,
-    gate: &G,
-    clock: Clock,
-    jobs: Vec<Job>,
-    keeps: Keeping,
-) -> Result<Answer, EngineFault>
-    requires few { length jobs.items ≤ max_tasks }
-    // The clauses of `run_jobs`.
-    ensures answer { IfOk result (IsAnswer clock (map job_record jobs.items)) }
-    ensures keeps { IfOk result (AllKeep keeps) }
-{
-    let mut engine = Engine::new(alloc, clock)?;
-    engine.run(rt, cut, gate, jobs, keeps)?;
-    engine.finish()
-}
-
-/// Runs the jobs up to the clock's horizon. A job's number is its place in the list, from 0. Each
-/// task stores a record of each attempt. If the run fails, it drops the jobs.
+/// Runs the jobs up to the clock's horizon. A job's number is its place in the list, from 0. If
+/// the run fails, it drops the jobs.
 pub fn run_jobs<G: Gate, R: Threads + Wait + Sync>(
     rt: &R,
     alloc: Global,
@@ -48,7 +28,8 @@ pub fn run_jobs<G: Gate, R: Threads + Wait + Sync>(
     requires few { length jobs.items ≤ max_tasks }
     // Each task has the timeline of its job alone, and each due poll was counted once.
     ensures answer { IfOk result (IsAnswer clock (map job_record jobs.items)) }
-    ensures keeps { IfOk result (AllKeep Keeping.Records) }
 {
-    run_keeping(rt, alloc, cut, gate, clock, jobs, Keeping::Records)
+    let mut engine = Engine::new(alloc, clock)?;
+    engine.run(rt, cut, gate, jobs)?;
+    engine.finish()
 }

@@ -21,5 +21,5 @@ mod slots;
 
 pub use answer::Answer;
 pub use fault::EngineFault;
-pub use jobs::{run_jobs, run_keeping};
+pub use jobs::run_jobs;
 pub use laws::listed_ticks;

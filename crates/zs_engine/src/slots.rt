@@ -1,5 +1,4 @@
-//! The tasks of a run, each in the slot of its job. A slot is empty while several workers poll its
-//! task.
+//! The tasks of a run, each in the slot of its job. A slot is empty while its task is polled.
 ghost use Rattle.std.specs.Prelude.{List, ◌≡◌, Some, None, slice_get, slice_set, OnOk, IfOk};
 ghost use Rattle.zs_drive.specs.Tasks.{TaskValue};
 ghost use Rattle.zs_engine.specs.Slots.{Picks, emptied, IsDistinct};

@@ -1,5 +1,5 @@
 //! Bytes that were read and not used yet, and the lines that they are.
-ghost use Rattle.std.specs.Prelude.{◌≡◌, ◌≤◌, ◌<◌, ◌+◌, ◌++◌, ◌∷◌, ◌↔◌, [], ℕ, List, Bool, Result, Ok, Err, length, true, false, IsErrOf, IsTrue};
+ghost use Rattle.std.specs.Prelude.{◌≡◌, ◌≤◌, ◌<◌, ◌+◌, ◌-◌, ◌^◌, ◌++◌, ◌∷◌, ◌↔◌, [], ℕ, List, Bool, Result, Ok, Err, length, true, false, IsErrOf, IsTrue};
 ghost use Rattle.std.specs.Io.KnownBytes.{Consumes, IsAtEnd, prepend_known};
 ghost use Rattle.zs_lines.specs.Buffers.{IsOneLine, LineRead};
 
@@ -109,6 +109,8 @@ impl Buffer {
         requires clear { R.mark reader.old ≡ false }
         ensures line { LineRead limit result (prepend_known self.old (R.remaining reader.old))
             (prepend_known self.new (R.remaining reader.new)) line.new.items }
+        // No line has more bytes than a `usize` counts.
+        ensures limit { result ≡ Err LineFault.TooLong → limit < 2 ^ 64 - 1 }
         ensures marks { IsTrue (R.mark reader.new) ↔ IsErrOf result LineFault.Read }
     {
         line.clear();

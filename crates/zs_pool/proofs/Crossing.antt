@@ -11,7 +11,7 @@ use denote.Hole.{as_row}
 use denote.Ref.{NamedLft}
 use denote.Struct.Field.{row_field, shr_ref_field}
 use denote.Struct.Tuple.{Tuple, tuple_type, TupleAt, type_at, parts}
-use denote.Param.SendFields.{FieldsHave, declared_send, declared_sync, variants_send, as_row_send}
+use denote.Param.SendFields.{FieldsHave, declared_send, declared_sync, as_row_send}
 use Rattle.std.proofs.Crossing.{Box-send, Vec-send, crosses, send as heap_send, sync as heap_sync, frees}
 use Rattle.std.specs.contracts.impls.GlobalAllocator.TheImpl as heap
 use Rattle.std.proofs.option.Option.TheSendSync as option
@@ -72,14 +72,8 @@ ended_send = declared_send drive.record.Ended.the_type (search sendable, (search
 attempted_send : IsSend drive.record.Attempted.the_row
 attempted_send = declared_send drive.record.Attempted.the_type (search sendable, (option.the_send drive.record.Ended.the_row ended_send, tt))
 
-told_send : IsSend drive.log.Told.the_row
-told_send = declared_send drive.log.Told.the_type (option.the_send drive.record.Attempted.the_row attempted_send, (search sendable, (search (rules, sendable, crosses) depth 20, (search (rules, sendable, crosses) depth 20, tt))))
-
-log_send : IsSend drive.log.Log.the_row
-log_send = variants_send drive.log.Log.enum ((Vec-send drive.record.Attempted.the_row attempted_send, tt), ((told_send, tt), tt))
-
 progress_send : IsSend drive.progress.Progress.the_row
-progress_send = declared_send drive.progress.Progress.the_type (search (rules, sendable), (search sendable, (search sendable, (search (rules, sendable), (search (rules, sendable, crosses) depth 20, (log_send, (compiled_send, (search (rules, sendable, crosses) depth 20, (search sendable, tt)))))))))
+progress_send = declared_send drive.progress.Progress.the_type (search (rules, sendable), (search sendable, (search sendable, (search (rules, sendable), (search (rules, sendable, crosses) depth 20, (Vec-send drive.record.Attempted.the_row attempted_send, (compiled_send, (search (rules, sendable, crosses) depth 20, (search sendable, tt)))))))))
 
 task_send : IsSend drive.task.Task.the_row
 task_send = view_send drive.task.Task.TheInside.the_row _ _ _ _ (declared_send drive.task.Task.TheInside.the_type (search sendable, (Box-send drive.progress.Progress.the_row progress_send, (search sendable, tt))))

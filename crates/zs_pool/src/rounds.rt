@@ -15,6 +15,8 @@ mod workers;
 use crate::batch::Batch;
 use crate::fault::PoolFault;
 use crate::gate::Gate;
+use crate::poller::{Poller, Polling};
+use crate::polling::poll_in;
 use crate::rounds::batches::in_order;
 use crate::rounds::cut::Cut;
 use crate::rounds::sharing::{Work, poll_shared};
@@ -41,6 +43,48 @@ fn cut_into(alloc: Global, grain: u64, mut tasks: Vec<Task>) -> Result<Vec<Batch
     }
     batches.reverse();
     Ok(batches)
+}
+
+/// Like `round`, under a gate and a context that serve several rounds.
+pub fn round_in<G: Gate, R: Threads + Wait + Sync>(
+    rt: &R,
+    cut: Cut,
+    polling: &mut Polling<'_, G>,
+    tally: &Tally,
+    seat: &mut TallySeat,
+    now: u64,
+    tasks: Vec<Task>,
+) -> Result<Vec<Task>, PoolFault>
+    requires few { length tasks.items ≤ max_tasks }
+    requires rising { IsStrictlyIncreasing (map (λ task. task.number) tasks.items) }
+    requires pollable { All (IsPollable now) tasks.items }
+    requires tally { seat.old.tally ≡ tally.now }
+    // Each worker may have to count all tasks.
+    requires allowance { cut.workers * length tasks.items ≤ seat.old.allowance }
+    ensures tasks { IfOk result (λ after. after.items ≡ map (polled_at now) tasks.items) }
+    ensures tally { OnOk result (seat.new.tally ≡ tally.now) }
+    // Each poll was counted once.
+    ensures count { OnOk result (seat.new.count ≡ seat.old.count + length tasks.items) }
+    ensures allowance { OnOk result (seat.new.allowance + length tasks.items ≡ seat.old.allowance) }
+    ensures fault { IfErr result (λ e. e ≢ Full) }
+{
+    let due = tasks.len() as u64;
+    // One worker has the whole round, so nothing is shared.
+    if cut.workers() == 1 || due <= cut.grain() {
+        let all = Batch { number: 0, tasks };
+        return poll_in(polling, tally, seat, now, all).into_tasks();
+    }
+    let alloc = polling.alloc;
+    let batches = cut_into(alloc, cut.grain(), tasks)?;
+    let size = batches.len();
+    let known = Snapshot::of(&batches);
+    let work = Work {
+        batches,
+        tasks: due,
+        helpers: size.min(cut.workers() as usize) - 1,
+    };
+    let messages = poll_shared(rt, alloc, polling.gate, tally, seat, now, work)?;
+    in_order(alloc, now, &known, size, messages)
 }
 
 /// Polls each task once at `now`, in milliseconds, and counts it. Each worker claims batches of
@@ -72,18 +116,7 @@ pub fn round<G: Gate, R: Threads + Wait + Sync>(
     ensures allowance { OnOk result (seat.new.allowance + length tasks.items ≡ seat.old.allowance) }
     ensures fault { IfErr result (λ e. e ≢ Full) }
 {
-    let due = tasks.len() as u64;
-    if due == 0 {
-        return Ok(tasks);
-    }
-    let batches = cut_into(alloc, cut.grain(), tasks)?;
-    let size = batches.len();
-    let known = Snapshot::of(&batches);
-    let work = Work {
-        batches,
-        tasks: due,
-        helpers: size.min(cut.workers() as usize) - 1,
-    };
-    let messages = poll_shared(rt, alloc, gate, tally, seat, now, work)?;
-    in_order(alloc, now, &known, size, messages)
+    let poller = Poller::new(alloc)?;
+    let mut polling = poller.begin(gate);
+    round_in(rt, cut, &mut polling, tally, seat, now, tasks)
 }

@@ -12,7 +12,7 @@ use Rattle.zs_agenda.specs.Ticks.{Ticks, horizon}
 use Rattle.zs_engine.specs.Times.{ticks_of}
 use Rattle.zs_drive.specs.Values.{AttemptedValue, JobRecord}
 use Rattle.zs_drive.specs.declared.record.Ending.{Ending}
-use Rattle.zs_drive.specs.Lines.{attempts_lines}
+use Rattle.zs_run.specs.Lines.{attempts_lines}
 use Rattle.zs_run.specs.declared.plan_fault.PlanFault.{PlanFault}
 use Rattle.zs_run.specs.Head.{HeadRecord, head_of, job_of_bytes}
 use Rattle.zs_run.specs.Plan.{PlanRecord}

@@ -12,12 +12,11 @@ use Rattle.zs_run.specs.declared.plan_fault.PlanFault.TheVariants as faults
 use Rattle.zs_run.specs.Refusals.{demand}
 use Rattle.zs_run.specs.Head.{head_of, job_of_bytes}
 use Rattle.zs_run.specs.Plan.{PlanRecord}
-use Rattle.zs_population.specs.declared.block.TheConstants.{MAX_POPULATION}
 use Rattle.zs_population.specs.declared.range.JobRange.{JobRange}
 
--- the most jobs of a population
+-- the most jobs of a population: 10^15
 abbrev pub max_population : ℕ
-max_population = MAX_POPULATION
+max_population = 1000000000000000
 
 -- the number of jobs that run together and are written together
 abbrev pub block_jobs : ℕ

@@ -20,8 +20,8 @@ use std::alloc::Global;
 use std::collections::BTreeSet;
 use std::sync::Wait;
 use std::thread::Threads;
-use zs_drive::{Job, Keeping};
-use zs_engine::{EngineFault, run_keeping};
+use zs_drive::Job;
+use zs_engine::{EngineFault, run_jobs};
 use zs_lines::LineFault;
 use zs_pool::{Gate, MAX_TASKS};
 use zs_run::{
@@ -106,7 +106,9 @@ pub(crate) fn skip_lines<R: Source>(
             Ok(true) => {}
             Ok(false) => return Ok(()),
             Err(LineFault::Read) => return Err(PopulationFault::Read),
-            Err(LineFault::TooLong | LineFault::Memory) => {
+            // No line has more than `usize::MAX` bytes.
+            Err(LineFault::TooLong) => unreachable!(),
+            Err(LineFault::Memory) => {
                 return Err(PopulationFault::Line {
                     line: number + 2,
                     fault: PlanFault::Memory,
@@ -228,7 +230,7 @@ fn plan_lines<T: Threads + Wait + Sync, G: Gate>(
         ≡ polls_of (plan_record plan).clock (plan_record plan).jobs) }
 {
     let Plan { clock, cut, jobs } = plan;
-    let answer = run_keeping(rt, alloc, cut, gate, clock, jobs, Keeping::Lines)?;
+    let answer = run_jobs(rt, alloc, cut, gate, clock, jobs)?;
     let mut text = String::new(alloc);
     append_jobs(&mut text, &answer)?;
     Ok((text, answer.polls))
@@ -255,7 +257,7 @@ pub(crate) fn run_block<T: Threads + Wait + Sync, G: Gate>(
         (jobs_text (head_record head.now).clock (map job_record jobs.items)) polls.new) }
 {
     let is_last = jobs.len() < BLOCK;
-    let plan = head.plan(alloc, jobs)?;
+    let plan = head.plan(jobs)?;
     let (mut text, more) = plan_lines(rt, alloc, gate, plan)?;
     *polls += u128::from(more);
     if is_last {

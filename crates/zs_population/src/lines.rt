@@ -1,5 +1,5 @@
 //! The lines of a population, counted and digested as they are read.
-ghost use Rattle.std.specs.Prelude.{◌≡◌, ◌<◌, ◌^◌, ◌↔◌, [], List, ℕ, Ok, Some, true, false, IfOk, IfSome, IsErrOf, IsTrue, OnOk};
+ghost use Rattle.std.specs.Prelude.{◌≡◌, ◌<◌, ◌^◌, ◌↔◌, ◌-◌, [], List, ℕ, Err, Ok, Some, true, false, IfOk, IfSome, IsErrOf, IsTrue, OnOk};
 ghost use Rattle.zs_lines.specs.Buffers.{LineRead, ahead};
 ghost use Rattle.zs_lines.specs.Lines.{lines_of};
 ghost use Rattle.zs_population.specs.Sums.{CountsLines, IsSummed, sums_of};
@@ -49,6 +49,7 @@ impl LineReader {
         requires clear { R.mark reader.old ≡ false }
         ensures line { LineRead limit result (ahead R.remaining self.old.buffer reader.old)
             (ahead R.remaining self.new.buffer reader.new) line.new.items }
+        ensures limit { result ≡ Err LineFault.TooLong → limit < 2 ^ 64 - 1 }
         ensures sums { OnOk result
             (CountsLines R.remaining self.old reader.old self.new reader.new) }
         ensures counts { result ≡ Ok true → (self.old.count < self.new.count)

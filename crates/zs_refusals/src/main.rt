@@ -36,7 +36,6 @@ fn make<R: Alloc<A = Global> + RandomSource + Threads + Wait + Sync>(
         "follow" => steps::follow_history(case),
         "steps" => steps::step_in_turn(case),
         "task" => tasks::poll_in_turn(rt, case),
-        "lines" => tasks::tell_in_turn(rt, case),
         "agenda" => timers::set_and_take(case),
         "board" => queues::use_board(rt, case),
         "shelf" => queues::use_shelf(rt, case),

@@ -7,7 +7,6 @@ pub mod ShapeLemmas
 pub mod JobLemmas
 pub mod LawfulLemmas
 pub mod AnswerLemmas
-pub mod Keeping
 pub mod Whole
 pub mod Endings
 pub mod EndsTold

@@ -13,7 +13,7 @@ use Rattle.zs_drive.specs.declared.record.Ending.TheVariants.{Succeeded, Failed,
 use Rattle.zs_step.specs.Answer.{Answer}
 use Rattle.zs_drive.specs.Values.{AttemptedValue, EndedValue}
 use Rattle.zs_term.specs.OutputText.{output_text}
-use Rattle.zs_drive.specs.Lines.{outcome_text, decision_text, step_line, step_lines, ended_lines, attempt_lines, attempts_lines}
+use Rattle.zs_run.specs.Lines.{outcome_text, decision_text, step_line, step_lines, ended_lines, attempt_lines, attempts_lines}
 use Rattle.zs_run.specs.Report.{last_moment, last_output, ending_text, end_line}
 use Rattle.zs_run.specs.Distinct.{Fits, DecisionFits, OutcomeFits, StepFits, EndFits, AttemptFits, EndingFits}
 use Rattle.zs_run.proofs.Splits.{clash, first_of_both, rest_of_both, number_split, number_begins}

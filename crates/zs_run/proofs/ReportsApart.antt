@@ -9,7 +9,7 @@ use Rattle.zs_drive.specs.declared.job.Mode.TheVariants.{Retry, Repeat}
 use Rattle.zs_drive.specs.declared.record.Ending.{Ending}
 use Rattle.zs_drive.specs.Values.{AttemptedValue}
 use Rattle.zs_run.specs.Jobs.{is_name, is_name_byte}
-use Rattle.zs_drive.specs.Lines.{attempts_lines}
+use Rattle.zs_run.specs.Lines.{attempts_lines}
 use Rattle.zs_run.specs.Report.{JobReport, mode_text, end_line, job_lines, report_text}
 use Rattle.zs_agenda.specs.Ticks.{Ticks, every_ms, listed, horizon, IsClock}
 use Rattle.zs_run.specs.Plan.{PlanRecord}

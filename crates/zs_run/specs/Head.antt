@@ -8,8 +8,8 @@ use Rattle.zs_drive.specs.Values.{JobRecord}
 use Rattle.zs_run.specs.declared.plan_fault.PlanFault.{PlanFault}
 use Rattle.zs_run.specs.declared.plan_fault.PlanFault.TheVariants as faults
 use Rattle.zs_run.specs.Refusals.{◌>>=◌, demand, demand_some}
-use Rattle.zs_run.specs.Tree.{tree_of, has_only_keys, whole_or}
-use Rattle.zs_run.specs.Shapes.{ticks_asked}
+use Rattle.zs_run.specs.Tree.{tree_of, has_only_keys}
+use Rattle.zs_run.specs.Shapes.{one_or_more, ticks_asked}
 use Rattle.zs_run.specs.Jobs.{job_of}
 use Rattle.zs_run.specs.Plan.{is_cut, max_bytes}
 
@@ -28,8 +28,8 @@ unfoldable pub head_of_tree : Data → Result HeadRecord PlanFault
 head_of_tree d = do
   clock ← demand_some (ticks_asked (get (codes "horizon") d) (get (codes "ticks") d))
       (faults.Shape None)
-  workers ← demand_some (whole_or 1 (get (codes "workers") d)) (faults.Shape None)
-  grain ← demand_some (whole_or 1 (get (codes "grain") d)) (faults.Shape None)
+  workers ← demand_some (one_or_more (codes "workers") d) (faults.Shape None)
+  grain ← demand_some (one_or_more (codes "grain") d) (faults.Shape None)
   _ ← demand (has_only_keys head_keys d) (faults.UnknownKey None)
   _ ← demand (is_clock clock && is_cut workers grain) (faults.Range None)
   Ok (record { clock = clock; workers = workers; grain = grain })

@@ -9,6 +9,7 @@ pub mod Head
 pub mod HeadView
 pub mod Names
 pub mod Lawful
+pub mod Lines
 pub mod Report
 pub mod ReportView
 pub mod PlanReport

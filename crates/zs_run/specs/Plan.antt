@@ -9,7 +9,6 @@ use Rattle.zs_drive.specs.Values.{JobRecord}
 use Rattle.zs_pool.specs.Limits.{max_workers, max_tasks}
 use Rattle.zs_run.specs.declared.plan_fault.PlanFault.{PlanFault}
 use Rattle.zs_run.specs.declared.plan_fault.PlanFault.TheVariants as faults
-use Rattle.zs_run.specs.declared.reading.TheConstants.{MAX_BYTES}
 use Rattle.zs_run.specs.Refusals.{◌>>=◌, demand, demand_some}
 use Rattle.zs_run.specs.Tree.{tree_of, has_only_keys}
 use Rattle.zs_run.specs.Shapes.{document_keys, document_parts, ticks_asked}
@@ -22,9 +21,9 @@ pub record PlanRecord : Type 0 where
   pub grain : ℕ
   pub jobs : List JobRecord
 
--- the greatest number of bytes of a plan
+-- the greatest number of bytes of a plan: 16 MiB
 abbrev pub max_bytes : ℕ
-max_bytes = MAX_BYTES
+max_bytes = 16777216
 
 -- the greatest number of jobs of a plan: a round may poll each of them
 abbrev pub max_jobs : ℕ

@@ -10,7 +10,7 @@ use Rattle.zs_drive.specs.declared.job.Mode.TheVariants.{Retry, Repeat}
 use Rattle.zs_drive.specs.declared.record.Ending.{Ending}
 use Rattle.zs_drive.specs.declared.record.Ending.TheVariants.{Succeeded, Failed, Finished}
 use Rattle.zs_drive.specs.Values.{AttemptedValue, EndedValue}
-use Rattle.zs_drive.specs.Lines.{attempts_lines}
+use Rattle.zs_run.specs.Lines.{attempts_lines}
 
 -- the name of a mode
 abbrev pub mode_text : Mode → List ℕ

@@ -68,16 +68,20 @@ ticks_asked None (Some ticks) = option_map listed (as_wholes ticks)
 ticks_asked None None = None
 ticks_asked (Some horizon) (Some ticks) = None
 
+-- the number of workers or the grain of a document, by its key: the default is 1
+abbrev pub one_or_more : List ℕ → Data → Option ℕ
+one_or_more key d = whole_or 1 (get key d)
+
 -- the parts of a document besides its clock
 pub record DocumentParts : Type 0 where
   pub workers : ℕ
   pub grain : ℕ
   pub jobs : List Data
 
--- the document's parts: two numbers with the default 1, and the list of jobs
+-- the document's parts: two numbers, and the list of jobs
 unfoldable pub document_parts : Data → Option DocumentParts
 document_parts d = do
-  workers ← whole_or 1 (get (codes "workers") d)
-  grain ← whole_or 1 (get (codes "grain") d)
+  workers ← one_or_more (codes "workers") d
+  grain ← one_or_more (codes "grain") d
   jobs ← find_list (codes "jobs") d
   Some (record { workers = workers; grain = grain; jobs = jobs })

@@ -10,8 +10,8 @@ ghost use Rattle.zs_run.specs.HeadView.{head_record, plan_with};
 use crate::plan::Plan;
 use crate::plan_fault::PlanFault;
 use crate::reading::MAX_BYTES;
-use crate::shapes::AskedTicks;
-use crate::tree::{has_only_keys, read_tree, whole_or};
+use crate::shapes::{AskedTicks, one_or_more};
+use crate::tree::{has_only_keys, read_tree};
 use serde_json::Value;
 use std::alloc::{AllocError, Global};
 use zs_agenda::Clock;
@@ -29,11 +29,11 @@ impl Head {
     ghost use Rattle.zs_run.specs.PlanView.{plan_record};
 
     /// The plan of some jobs that run in this way.
-    pub fn plan(&self, alloc: Global, jobs: Vec<Job>) -> Result<Plan, AllocError>
+    pub fn plan(&self, jobs: Vec<Job>) -> Result<Plan, AllocError>
         ensures plan { IfOk result (λ plan.
             plan_record plan ≡ plan_with (head_record self.now) (map job_record jobs.items)) }
     {
-        let clock = self.clock.copy(alloc)?;
+        let clock = self.clock.copy()?;
         let cut = self.cut;
         Ok(Plan { clock, cut, jobs })
     }
@@ -45,8 +45,8 @@ fn head_in(alloc: Global, document: &Value) -> Result<Head, PlanFault>
     ensures head { Gives head_record result (head_of_tree (view document.now)) }
 {
     let asked = AskedTicks::of(alloc, document.get("horizon"), document.get("ticks"))?;
-    let workers = whole_or(document, "workers", 1).ok_or(PlanFault::Shape { job: None })?;
-    let grain = whole_or(document, "grain", 1).ok_or(PlanFault::Shape { job: None })?;
+    let workers = one_or_more(document, "workers").ok_or(PlanFault::Shape { job: None })?;
+    let grain = one_or_more(document, "grain").ok_or(PlanFault::Shape { job: None })?;
     if !has_only_keys(document, &["horizon", "ticks", "workers", "grain"]) {
         return Err(PlanFault::UnknownKey { job: None });
     }

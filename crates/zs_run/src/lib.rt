@@ -12,6 +12,7 @@
 //! ```
 #![tactic(auto)]
 
+mod attempt_lines;
 mod entry;
 mod head;
 mod job_reading;

@@ -40,6 +40,10 @@ impl<R: Read> Source for Marked<R> {
 
     ghost pulls = { marked_pulls };
 
+    fn failed(&self) -> bool {
+        self.failed
+    }
+
     fn pull(&mut self, buf: &mut [u8]) -> Result<usize, Failed> {
         self.pulls = self.pulls.saturating_add(1);
         match self.inner.read(buf) {
@@ -49,10 +53,6 @@ impl<R: Read> Source for Marked<R> {
                 Err(Failed)
             }
         }
-    }
-
-    fn failed(&self) -> bool {
-        self.failed
     }
 }
 
@@ -64,6 +64,10 @@ impl<W: Write> Drain for Marked<W> {
     ghost mark = { marked_failed };
 
     ghost flushed = { marked_flushed };
+
+    fn failed(&self) -> bool {
+        self.failed
+    }
 
     fn give(&mut self, buf: &[u8]) -> Result<usize, Failed> {
         self.flushed = false;
@@ -87,9 +91,5 @@ impl<W: Write> Drain for Marked<W> {
                 Err(Failed)
             }
         }
-    }
-
-    fn failed(&self) -> bool {
-        self.failed
     }
 }

@@ -1,45 +1,21 @@
 //! Reports.
-ghost use Rattle.std.specs.Prelude.{◌≡◌, ◌+◌, ◌<◌, ◌^◌, length, [], OnOk, IfOk, IsSome, None, Some, map, option_copied, string_bytes};
+ghost use Rattle.std.specs.Prelude.{◌≡◌, [], OnOk, IfOk, None, Some, map, option_copied, string_bytes};
 ghost use Rattle.std.specs.List.{flat_map};
 ghost use Rattle.zs_term.specs.OutputText.{Adds};
-ghost use Rattle.zs_drive.specs.Values.{attempted_of, ended_of};
-ghost use Rattle.zs_drive.specs.Lines.{attempts_lines};
+ghost use Rattle.zs_drive.specs.Values.{ended_of};
 ghost use Rattle.zs_drive.specs.Tasks.{current_timeline};
 ghost use Rattle.zs_run.specs.Report.{end_line, ending_text, head_line, job_lines, last_ended, last_moment, last_output, mode_text, report_text};
 ghost use Rattle.zs_run.specs.PlanReport.{with_total};
 ghost use Rattle.zs_run.specs.ReportView.{task_end, task_report};
 
+use crate::attempt_lines::push_attempts;
 use std::alloc::{AllocError, Global};
-use zs_drive::{Attempted, Ended, Ending, Mode, Task, append_attempt};
+use zs_drive::{Ended, Ending, Mode, Task};
 use zs_engine::Answer;
 use zs_term::append_out;
 
-// Adds the lines of attempts, of which the first has this number.
-fn push_attempts(text: &mut String, from: u64, attempts: &[Attempted]) -> Result<(), AllocError>
-    requires few { from + length attempts.now < 2 ^ 64 }
-    ensures text { OnOk result
-        (Adds text.old text.new (attempts_lines from (map attempted_of attempts.now))) }
-{
-    let mut number = from;
-    for attempt in attempts {
-        append_attempt(text, number, attempt)?;
-        number += 1;
-    }
-    Ok(())
-}
-
-// Adds the lines of the attempts of a task.
-fn push_task(text: &mut String, task: &Task) -> Result<(), AllocError>
-    ensures text { OnOk result
-        (Adds text.old text.new (attempts_lines 1 (current_timeline task.now).attempts)) }
-{
-    text.push_str(task.lines())?;
-    push_attempts(text, task.told_count() + 1, task.records())
-}
-
-// How the last attempt of a task ended, whose job has ended: that attempt is a record.
+// How the last attempt of a task ended, if it has.
 fn last_end(task: &Task) -> Option<&Ended>
-    requires over { IsSome (current_timeline task.now).ending }
     ensures value { ended_of (option_copied result)
         ≡ last_ended (current_timeline task.now).attempts }
 {
@@ -51,7 +27,6 @@ fn last_end(task: &Task) -> Option<&Ended>
 
 // The moment at which the last attempt ended.
 fn last_moment(task: &Task) -> u64
-    requires over { IsSome (current_timeline task.now).ending }
     ensures value { result ≡ last_moment (current_timeline task.now).attempts }
 {
     last_end(task).map_or(0, |ended| ended.at)
@@ -59,7 +34,6 @@ fn last_moment(task: &Task) -> u64
 
 // Adds the output of the last step, if the schedule was stepped.
 fn push_last_output(text: &mut String, task: &Task) -> Result<(), AllocError>
-    requires over { IsSome (current_timeline task.now).ending }
     ensures text { OnOk result
         (Adds text.old text.new (last_output (current_timeline task.now).attempts)) }
 {
@@ -71,7 +45,6 @@ fn push_last_output(text: &mut String, task: &Task) -> Result<(), AllocError>
 
 // Adds how a job ended.
 fn push_ending(text: &mut String, task: &Task, ending: Ending) -> Result<(), AllocError>
-    requires over { IsSome (current_timeline task.now).ending }
     ensures text { OnOk result
         (Adds text.old text.new (ending_text (current_timeline task.now).attempts ending)) }
 {
@@ -133,7 +106,7 @@ fn push_job(text: &mut String, horizon: u64, task: &Task) -> Result<(), AllocErr
     ensures text { OnOk result (Adds text.old text.new (job_lines horizon (task_report task.now))) }
 {
     push_head(text, task)?;
-    push_task(text, task)?;
+    push_attempts(text, task.records())?;
     push_end(text, horizon, task)
 }
 

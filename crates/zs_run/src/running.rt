@@ -8,16 +8,15 @@ ghost use Rattle.zs_run.specs.PlanReads.{Reads, reading};
 
 use crate::plan::Plan;
 use crate::plan_fault::PlanFault;
-use crate::reading::{InputFault, MAX_BYTES, read_plan, read_up_to};
+use crate::reading::{MAX_BYTES, read_plan};
 use crate::reporting::report;
 use crate::run_fault::RunFault;
 use crate::streams::{Drain, Source};
-use crate::transfer::write_all;
+use crate::transfer::{InputFault, read_up_to, write_all};
 use std::alloc::Global;
 use std::sync::Wait;
 use std::thread::Threads;
-use zs_drive::Keeping;
-use zs_engine::{EngineFault, run_keeping};
+use zs_engine::{EngineFault, run_jobs};
 use zs_pool::Gate;
 
 // One byte more than a plan may have: enough to know that there are too many.
@@ -54,7 +53,7 @@ fn report_plan<T: Threads + Wait + Sync, G: Gate>(
     ensures text { IfOk result (λ text. string_bytes text ≡ report_of (plan_record plan)) }
 {
     let Plan { clock, cut, jobs } = plan;
-    let answer = run_keeping(rt, alloc, cut, gate, clock, jobs, Keeping::Lines)?;
+    let answer = run_jobs(rt, alloc, cut, gate, clock, jobs)?;
     Ok(report(alloc, &answer)?)
 }
 

@@ -5,6 +5,7 @@ ghost use Rattle.serde_json.specs.View.{view};
 ghost use Rattle.zs_run.specs.declared.plan_fault.PlanFault.TheVariants as faults;
 ghost use Rattle.zs_run.specs.Refusals.{Gives, demand_some};
 ghost use Rattle.zs_run.specs.Tree.{all_of, as_whole, as_wholes};
+ghost use Rattle.zs_run.specs.Shapes.{one_or_more};
 
 use crate::plan_fault::PlanFault;
 use crate::tree::{as_list, take_list, whole_or};
@@ -51,6 +52,13 @@ fn wholes_in(alloc: Global, value: &Value) -> Result<Vec<u64>, PlanFault>
 {
     let items = as_list(value).ok_or(PlanFault::Shape { job: None })?;
     wholes_of(alloc, items)
+}
+
+/// The number at a document's key `workers` or `grain`, or 1 if there is none.
+pub(crate) fn one_or_more(document: &Value, key: &str) -> Option<u64>
+    ensures value { result ≡ one_or_more key.now (view document.now) }
+{
+    whole_or(document, key, 1)
 }
 
 impl AskedTicks {
@@ -100,8 +108,8 @@ impl DocumentParts {
     pub(crate) fn of(alloc: Global, document: &mut Value) -> Option<DocumentParts>
         ensures value { option_map document_view result ≡ document_parts (view document.old) }
     {
-        let workers = whole_or(document, "workers", 1)?;
-        let grain = whole_or(document, "grain", 1)?;
+        let workers = one_or_more(document, "workers")?;
+        let grain = one_or_more(document, "grain")?;
         let jobs = take_list(alloc, document, "jobs")?;
         Some(DocumentParts {
             workers,

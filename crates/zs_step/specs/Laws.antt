@@ -1,6 +1,8 @@
 -- Words for the laws of schedules. Each states over a whole history what `Answer` defines step by
 -- step. The functions of `src/laws.rt` prove the laws for every schedule and every history.
-use Rattle.std.specs.Prelude.{◌≡◌, ℕ, ◌+◌, ◌*◌, ◌<◌, ◌≤◌, Bool, true, false, [], ◌∷◌, ◌++◌}
+use Rattle.std.specs.Prelude.{◌≡◌, ℕ, ◌+◌, ◌*◌, ◌<◌, ◌≤◌, Bool, true, false, [], ◌∷◌, ◌++◌, length}
+use Rattle.std.specs.Prelude.{Option, Some, None, IfSome}
+use Rattle.zs_term.specs.Saturating.{saturated}
 use Rattle.zs_term.specs.Output.{left, right, passes, picked}
 use Rattle.zs_term.specs.Schedule.{Schedule}
 use Rattle.zs_term.specs.declared.term.Test.{Test}
@@ -8,7 +10,13 @@ use Rattle.zs_term.specs.declared.term.Pick.{Pick}
 use Rattle.zs_term.specs.declared.term.Cmp.TheVariants.{Lt}
 use Rattle.zs_step.specs.declared.decision.Decision.{Decision}
 use Rattle.zs_step.specs.declared.decision.Decision.TheVariants.{Stop, Next}
+use Rattle.zs_step.specs.declared.leaf.Past.{Past}
+use Rattle.zs_step.specs.declared.leaf.Leaf.{Leaf}
+use Rattle.zs_step.specs.declared.leaf.Leaf.TheVariants.{Forever, Recurs, Spaced, Fixed}
+use Rattle.zs_step.specs.declared.leaf.Leaf.TheVariants.{Exponential, Fibonacci, Identity, Elapsed}
+use Rattle.zs_step.specs.declared.leaf.Leaf.TheVariants.{Linear, Windowed}
 use Rattle.zs_step.specs.History.{History, first_moment, last_moment, earlier, IsInOrder}
+use Rattle.zs_step.specs.LeafState.{LeafRepresents, next_count}
 use Rattle.zs_step.specs.Answer.{Answer, answer, answer_of, is_next, since_reset, next_run}
 
 -- a schedule continues at every step of a history
@@ -88,3 +96,26 @@ pub record IsInTime (period : ℕ) (h : History) : Type 0 where
 -- a schedule continues at this moment after the last step
 abbrev pub ContinuesAt : Schedule → History → ℕ → Type 0
 ContinuesAt t h moment = (answer_of t h).decision ≡ Next moment
+
+-- the number of steps before the last one, if there was a step
+abbrev pub before_at : Option Past → Option ℕ
+before_at None = None
+before_at (Some past) = Some past.before
+
+-- The number of steps, as a leaf that counts them has it: one more than it stores, or 0 if it
+-- stores none.
+abbrev pub steps_at : Leaf → Option ℕ
+steps_at (Forever b) = Some (next_count b)
+steps_at (Recurs k b) = Some (next_count b)
+steps_at (Spaced d b) = Some (next_count b)
+steps_at (Fixed p past run) = Some (next_count (before_at past))
+steps_at (Exponential b f x y) = None
+steps_at (Fibonacci o x y) = None
+steps_at (Identity x) = None
+steps_at (Elapsed m x) = None
+steps_at (Linear n x) = None
+steps_at (Windowed p past) = Some (next_count (before_at past))
+
+-- a leaf that represents a history has counted its steps, up to 2^64 - 1
+abbrev pub HasCounted : Leaf → History → Type 0
+HasCounted l h = LeafRepresents l h → IfSome (steps_at l) (λ n. n ≡ saturated (length h))

@@ -54,14 +54,14 @@ impl Collected {
     }
 
     // Appends the output that is due. The list then shares its memory with copies of it.
-    pub(crate) fn join(&mut self, alloc: Global, last: Out) -> Result<(), AllocError>
+    pub(crate) fn join(&mut self, last: Out) -> Result<(), AllocError>
         ensures joined { OnOk result
             (earlier_outputs self.new ≡ with_last (earlier_outputs self.old) (output_of last)) }
         ensures due { OnOk result (self.new.due ≡ false) }
     {
-        self.list.push(alloc, last)?;
+        self.list.push(last)?;
         self.due = false;
-        drop(self.list.share(alloc)?);
+        drop(self.list.share()?);
         Ok(())
     }
 

@@ -1,14 +1,12 @@
 //! A schedule that is stepped in place, with its term.
 
 ghost use Rattle.std.specs.Prelude.{◌≤◌};
-ghost use Rattle.zs_term.specs.Schedule.{weight};
-ghost use Rattle.zs_term.specs.declared.limits.TheConstants.{MAX_WEIGHT};
+ghost use Rattle.zs_term.specs.Schedule.{weight, max_weight};
 ghost use Rattle.zs_step.specs.State.{state_schedule};
 
 use crate::decision::Decision;
 use crate::fault::StepFault;
 use crate::numbers::Numbers;
-use crate::output_text::append;
 use crate::state::{State, state_of};
 use crate::stepped::Stepped;
 use crate::stepping::{StepInput, Trace, join_lists, step_node};
@@ -27,13 +25,12 @@ pub struct Compiled {
     broken: bool,
     alloc: Global,
     checked: Checked,
-    ghost small: { weight (state_schedule state) ≤ MAX_WEIGHT },
+    ghost small: { weight (state_schedule state) ≤ max_weight },
 }
 
 impl Compiled {
-    ghost use Rattle.std.specs.Prelude.{◌≡◌, ◌≤◌, [], IfOk, OnOk, IsOk, true};
+    ghost use Rattle.std.specs.Prelude.{◌≡◌, ◌≤◌, [], IfOk, IsOk, true};
     ghost use Rattle.zs_term.specs.Output.{output_of};
-    ghost use Rattle.zs_term.specs.OutputText.{output_text, Adds, Extends};
     ghost use Rattle.zs_term.specs.Schedule.{schedule_of};
     ghost use Rattle.zs_step.specs.History.{History};
     ghost use Rattle.zs_step.specs.Memory.{is_bare, is_leaf};
@@ -116,22 +113,13 @@ impl Compiled {
         Ok((decision, trace.visits))
     }
 
-    /// Makes the output of the last step. Only its lists share memory with the state.
-    pub fn output(&self) -> Result<Out, AllocError>
+    // Makes the output of the last step. Only its lists share memory with the state.
+    fn output(&self) -> Result<Out, AllocError>
         ensures value { IfOk result (λ o. output_of o ≡ compiled_output self.now) }
         ensures succeeds { (h : History) → StandsFor self.now h
             → is_bare (compiled_schedule self.now) ≡ true → IsOk result }
     {
         make_out(self.alloc, &self.state)
-    }
-
-    /// Appends the text of the output of the last step. If that fails, the text may end with a part
-    /// of it.
-    pub fn append_output(&self, text: &mut String) -> Result<(), AllocError>
-        ensures ok { OnOk result (Adds text.old text.new (output_text (compiled_output self.now))) }
-        ensures kept { Extends text.old text.new }
-    {
-        append(text, &self.state)
     }
 
     // Breaks the schedule.

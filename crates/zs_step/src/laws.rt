@@ -10,9 +10,10 @@ ghost use Rattle.zs_term.specs.declared.term.Pick.{Pick};
 ghost use Rattle.zs_term.specs.declared.term.Pick.TheVariants.{Whole};
 ghost use Rattle.zs_step.specs.History.{History, first_moment, last_moment, IsInOrder};
 ghost use Rattle.zs_step.specs.Answer.{answer_of, from_done, since_reset, next_run};
+ghost use Rattle.zs_step.specs.declared.leaf.Leaf.{Leaf};
 ghost use Rattle.zs_step.specs.LeafState.{before_of, next_count, past_of};
 ghost use Rattle.zs_step.specs.Visits.{visits};
-ghost use Rattle.zs_step.specs.Laws.{GoesOnThroughout, IsFromFirstDone, in_left, in_right, below, IsNotBefore, IsWithoutReset, IsFromLastReset, ContinuesAt, IsBoundaryAfter, IsInTime};
+ghost use Rattle.zs_step.specs.Laws.{GoesOnThroughout, IsFromFirstDone, in_left, in_right, below, IsNotBefore, IsWithoutReset, IsFromLastReset, ContinuesAt, IsBoundaryAfter, IsInTime, HasCounted};
 
 /// The second part of `andThenEither` begins at the least step at which the first is done, and
 /// determines the result from there on.
@@ -86,4 +87,6 @@ pub fn a_leaf_counts_its_steps()
     ensures value { (h : History) → next_count (before_of h) ≡ saturated (length h) }
     ensures past { (p : ℕ × ℕ) (h : History) → past_of (p ∷ h)
         ≡ Some (record { first = first_moment (p ∷ h); before = saturated (length h) }) }
+    // So the number of steps is read from every state that represents a history.
+    ensures counted { (l : Leaf) (h : History) → HasCounted l h }
 {}

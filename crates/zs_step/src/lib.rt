@@ -21,7 +21,6 @@ mod laws;
 mod leaf;
 mod leaves;
 mod numbers;
-mod output_text;
 mod state;
 mod stepped;
 mod stepping;

@@ -58,7 +58,7 @@ pub(crate) fn join_lists(state: &mut State, alloc: Global) -> Result<(), AllocEr
         }
         State::CollectAll { part, kept } => {
             if kept.due() {
-                kept.join(alloc, make_out(alloc, part)?)?;
+                kept.join(make_out(alloc, part)?)?;
             }
             join_lists(part, alloc)
         }

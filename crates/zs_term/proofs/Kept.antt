@@ -1,5 +1,5 @@
 -- What is stored of a whole term: its sizes, and the term itself if terms are built.
-use Rattle.std.proofs.Common.{◌≡◌, ℕ, ◌+◌, ◌*◌, ◌^◌, ◌<◌, ◌≤◌, List, Bool, true, false, Option, Some, None, refl, sym, ap, ◌∙◌, arith, max}
+use Rattle.std.proofs.Common.{◌≡◌, ℕ, ◌+◌, ◌*◌, ◌^◌, ◌<◌, ◌≤◌, List, Bool, true, false, Option, Some, None, refl, sym, ap, ◌∙◌, arith, max, inl, inr}
 use Rattle.std.specs.Prelude.{nat_le, nat_lt, option_map, ◌&&◌}
 use Rattle.std.proofs.lemmas.Bool.Decides.{nat_tests}
 use Rattle.zs_term.specs.Saturating.{saturated}
@@ -7,10 +7,10 @@ use Rattle.zs_term.specs.declared.term.Func.{Func}
 use Rattle.zs_term.specs.declared.term.Func.TheVariants.{First, Second, Size, Merge, Const, Add, Mul}
 use Rattle.zs_term.specs.Schedule.{Schedule, leaf, two, over, Leaf, plain, counted, exponential, Modifier, while_input, while_output, collect_all, mapped, reset_when, times, depth, weight, is_within_limits}
 use Rattle.zs_term.specs.Number.{fit, FuncFits, LeafFits, ModifierFits, HasFittingNumbers}
-use Rattle.zs_term.specs.Token.{lexed}
 use Rattle.zs_term.specs.Machine.{infix_pairing, leaf_value, pairing_infix, modifier_value, value, apply_func}
 use Rattle.zs_term.specs.Parts.{Kept, keep, one_more, with_both}
-use Rattle.zs_term.specs.Causes.{TextSpells, first_huge}
+use Rattle.zs_term.specs.Totals.{ArePast}
+use Rattle.zs_term.specs.Reading.{IsWhole}
 use Rattle.zs_term.proofs.Fitting.{fits_in}
 use Rattle.zs_term.proofs.Runs.{planted_pair}
 
@@ -164,35 +164,12 @@ module _ (build : Bool) (t : Schedule) (a : Kept) (e : value (keep build) t ≡ 
       let light : weight t ≤ 1000 = omega (arith, sizes.1) in
       and_true (nat_le (depth t) 64) (nat_le (weight t) 1000) (le_test (depth t) 64 low) (le_test (weight t) 1000 light)
 
--- a text whose numbers fit has a stored term, if terms are built
-pub there : (text : List ℕ) (t : Schedule) (a : Kept) → TextSpells text t → value (keep true) t ≡ a → first_huge (lexed text).tokens ≡ None → a.schedule ≡ Some t
-there text t a s e h = ap (λ k. k.schedule) (sym e) ∙ schedule_kept t (fits_in text t s h)
-
--- nothing is stored over a part that isn't built
-map_nothing : (f : Func) (a : Kept) → a.schedule ≡ None → (apply_func (keep false) a f).schedule ≡ None
-map_nothing First a h = ap (option_map (λ t. over t (mapped First))) h
-map_nothing Second a h = ap (option_map (λ t. over t (mapped Second))) h
-map_nothing Size a h = ap (option_map (λ t. over t (mapped Size))) h
-map_nothing Merge a h = ap (option_map (λ t. over t (mapped Merge))) h
-map_nothing (Const n) a h = ap (λ o. with_both (λ t k. over t (mapped (Const k))) o (fit n)) h
-map_nothing (Add n) a h = ap (λ o. with_both (λ t k. over t (mapped (Add k))) o (fit n)) h
-map_nothing (Mul n) a h = ap (λ o. with_both (λ t k. over t (mapped (Mul k))) o (fit n)) h
-
-modifier_nothing : (m : Modifier) (a : Kept) → a.schedule ≡ None → (modifier_value (keep false) a m).schedule ≡ None
-modifier_nothing (while_input t) a h = ap (λ o. with_both (λ x k. over x (while_input (record { cmp = t.cmp; than = k }))) o (fit t.than)) h
-modifier_nothing (while_output p t) a h = ap (λ o. with_both (λ x k. over x (while_output p (record { cmp = t.cmp; than = k }))) o (fit t.than)) h
-modifier_nothing collect_all a h = ap (option_map (λ x. over x collect_all)) h
-modifier_nothing (mapped f) a h = map_nothing f a h
-modifier_nothing (reset_when p t) a h = ap (λ o. with_both (λ x k. over x (reset_when p (record { cmp = t.cmp; than = k }))) o (fit t.than)) h
-
-nothing_kept : (t : Schedule) → (value (keep false) t).schedule ≡ None
-nothing_kept (leaf (plain p)) = refl
-nothing_kept (leaf (counted c n)) = refl
-nothing_kept (leaf (exponential b f)) = refl
-nothing_kept (two p a b) = ap (λ o. with_both (two (infix_pairing (pairing_infix p))) o (value (keep false) b).schedule) (nothing_kept a)
-nothing_kept (over s m) = modifier_nothing m (value (keep false) s) (nothing_kept s)
-
--- a stored term of a text whose numbers fit is the text's term
-pub the_term : (build : Bool) (text : List ℕ) (t s : Schedule) (a : Kept) → TextSpells text t → value (keep build) t ≡ a → first_huge (lexed text).tokens ≡ None → a.schedule ≡ Some s → t ≡ s
-the_term true text t s a h e f k = let both : Some t ≡ Some s = sym (there text t a h e f) ∙ k in cc
-the_term false text t s a h e f k = let never : None ≡ Some s = sym (nothing_kept t) ∙ ap (λ x. x.schedule) e ∙ k in cc
+-- the term is stored of a text whose numbers fit, if the sizes are within the limits
+pub there : (text : List ℕ) (a : Kept) (huge : Option ℕ) (w : IsWhole text a huge) → a.depth ≤ 64 → a.weight ≤ 1000 → huge ≡ None → a.schedule ≡ Some w.term
+there text a huge w d e n = at_build w.build w.is w.past where
+  at_build : (b : Bool) → value (keep b) w.term ≡ a → (b ≡ false → ArePast (a.depth, a.weight)) → a.schedule ≡ Some w.term
+  at_build true is past = ap (λ k. k.schedule) (sym is) ∙ schedule_kept w.term (fits_in text w.term w.spelled (sym w.numbers ∙ n))
+  at_build false is past = absurd (never (past refl)) where
+    never : ArePast (a.depth, a.weight) → ⊥
+    never (inl h) = omega arith
+    never (inr h) = omega arith

@@ -16,3 +16,4 @@ pub mod OnePlace
 pub mod Verdicts
 pub mod Computed
 pub mod Rows
+pub mod Totals

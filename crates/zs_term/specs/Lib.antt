@@ -21,4 +21,5 @@ pub mod Scan
 pub mod Parts
 pub mod Shape
 pub mod Outline
+pub mod Totals
 pub mod Reading

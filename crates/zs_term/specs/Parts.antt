@@ -1,6 +1,6 @@
 -- What the code stores of the terms that it has read.
-use Rattle.std.specs.Prelude.{◌≡◌, ◌≢◌, ℕ, ◌+◌, max, Bool, List, [], ◌∷◌, ◌++◌, replicate, Option}
-use Rattle.std.specs.Prelude.{Some, None, option_map, if◌then◌else◌, MatchOption}
+use Rattle.std.specs.Prelude.{◌≡◌, ◌≢◌, ℕ, ◌+◌, max, Bool, List, [], ◌∷◌, ◌++◌, map, replicate}
+use Rattle.std.specs.Prelude.{Option, Some, None, option_map, if◌then◌else◌, MatchOption}
 use Rattle.zs_term.specs.Schedule.{Schedule, leaf, two, over, plain, counted, exponential}
 use Rattle.zs_term.specs.Schedule.{collect_all, mapped, schedule_of}
 use Rattle.zs_term.specs.Saturating.{saturated}
@@ -95,6 +95,32 @@ keep build = record {
   scale = keep_scale;
 }
 
+-- what is stored of a part without its term
+abbrev pub sizes_of : Kept → Kept
+sizes_of a = record { depth = a.depth; weight = a.weight; schedule = None }
+
+-- an open form without its term
+abbrev pub sizes_frame : Frame Kept → Frame Kept
+sizes_frame left = left
+sizes_frame (right i a) = right i (sizes_of a)
+
+-- a stage without its term
+abbrev pub sizes_stage : Stage Kept (Option ℕ) → Stage Kept (Option ℕ)
+sizes_stage (closing a) = closing (sizes_of a)
+sizes_stage (after a) = after (sizes_of a)
+sizes_stage (dotted a) = dotted (sizes_of a)
+sizes_stage (method w a) = method w (sizes_of a)
+sizes_stage (picking e a) = picking e (sizes_of a)
+sizes_stage (testing a s) = testing (sizes_of a) s
+sizes_stage (comparing a s c) = comparing (sizes_of a) s c
+sizes_stage (mapping a) = mapping (sizes_of a)
+sizes_stage (scaling a g) = scaling (sizes_of a) g
+sizes_stage k = k
+
+-- a state without its terms
+abbrev pub sizes_state : State Kept (Option ℕ) → State Kept (Option ℕ)
+sizes_state s = at (map sizes_frame s.frames) (sizes_stage s.stage)
+
 -- a stored part, as plain data
 abbrev pub kept_of : Part → Kept
 kept_of p = record {
@@ -111,6 +137,14 @@ bare_onto n fs = replicate n left ++ fs
 abbrev pub joined_onto : List (Frame Kept) → List Joined → List (Frame Kept)
 joined_onto fs [] = fs
 joined_onto fs (k ∷ ks) = joined_onto (right k.form (kept_of k.left) ∷ bare_onto k.before fs) ks
+
+-- a form whose operator was read, without its term
+abbrev pub without_term : Joined → Joined
+without_term k = record {
+  before = k.before;
+  form = k.form;
+  left = record { depth = k.left.depth; weight = k.left.weight; term = None };
+}
 
 -- all open forms, as the code stores them
 abbrev pub stack_of : Parser → List (Frame Kept)

@@ -23,7 +23,6 @@ use Rattle.zs_term.specs.declared.forms.Counted.TheVariants.{Fixed as CountedFix
 use Rattle.zs_term.specs.declared.forms.Counted.TheVariants.{Fibonacci as CountedFibonacci}
 use Rattle.zs_term.specs.declared.forms.Counted.TheVariants.{Linear as CountedLinear}
 use Rattle.zs_term.specs.declared.forms.Counted.TheVariants.{Windowed as CountedWindowed}
-use Rattle.zs_term.specs.declared.limits.TheConstants.{MAX_DEPTH, MAX_WEIGHT}
 
 -- a schedule without parts: a word, a word with a number, or `exponential(base, factor)`
 pub data Leaf : Type 0 where
@@ -152,6 +151,14 @@ has_factors s = all_leaves has_factor s
 abbrev pub has_windows : Schedule → Bool
 has_windows s = all_leaves has_window s
 
+-- the greatest depth: 64 levels; a leaf has 1
+abbrev pub max_depth : ℕ
+max_depth = 64
+
+-- the greatest weight: 1,000 nodes; `resetWhen` counts its part twice
+abbrev pub max_weight : ℕ
+max_weight = 1000
+
 -- whether a schedule is within the greatest depth and weight
 abbrev pub is_within_limits : Schedule → Bool
-is_within_limits t = nat_le (depth t) MAX_DEPTH && nat_le (weight t) MAX_WEIGHT
+is_within_limits t = nat_le (depth t) max_depth && nat_le (weight t) max_weight

@@ -1,7 +1,7 @@
 //! Checked terms: schedules that can be stepped.
 
 ghost use Rattle.std.specs.Prelude.{◌≡◌, ◌≢◌, ◌<◌, Some, IfOk, IfErr, true, false, ◌↔◌};
-ghost use Rattle.zs_term.specs.Schedule.{schedule_of, is_within_limits, has_factors, weight, two, both};
+ghost use Rattle.zs_term.specs.Schedule.{schedule_of, is_within_limits, has_factors, two, both};
 ghost use Rattle.zs_term.specs.OutputKind.{output_kind_of};
 ghost use Rattle.zs_term.specs.Kinds.{kind_of, takes_memory, IsSchedule};
 ghost use Rattle.zs_term.specs.Causes.{IsTermCause};
@@ -11,7 +11,7 @@ ghost use Rattle.zs_term.specs.Shape.{steps_to_give_up};
 use crate::fault::TermFault;
 use crate::inference::{has_kind, make_kind};
 use crate::kind::Kind;
-use crate::limits::{has_factors_and_windows, is_within_limits, weight_within};
+use crate::limits::{has_factors_and_windows, is_within_limits};
 use crate::term::Term;
 use std::alloc::Global;
 use std::marker::Model;
@@ -59,13 +59,6 @@ impl Checked {
         ensures kind { kind_of (schedule_of self.now) ≡ Some (output_kind_of result.now) }
     {
         &self.kind
-    }
-
-    /// Returns the weight, from 1 to 1,000. No step visits more nodes. The call visits every node.
-    pub fn weight(&self) -> u64
-        ensures value { result ≡ weight (schedule_of self.now) }
-    {
-        weight_within(&self.term)
     }
 }
 

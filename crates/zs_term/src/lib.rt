@@ -11,6 +11,7 @@
 #![tactic(auto)]
 
 mod checked;
+mod dropping;
 mod fault;
 mod forms;
 mod inference;
@@ -35,7 +36,7 @@ pub use laws::{
     verdict_is_the_one,
 };
 pub use limits::{MAX_DEPTH, MAX_WEIGHT};
-pub use out_text::{NoMemory, append_number, append_out, append_outs, write_out};
+pub use out_text::{NoMemory, append_number, append_out, write_out};
 pub use outputs::{Out, Outs, make_left, make_list, make_pair, make_right};
 pub use printer::write;
 pub use reader::read;

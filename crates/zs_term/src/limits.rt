@@ -1,6 +1,6 @@
 //! The limits of terms: depth, weight, factors and windows.
 
-ghost use Rattle.std.specs.Prelude.{◌≡◌, ◌<◌, ◌≤◌, ◌+◌, ◌⊎◌, true, IfSome, IfNone};
+ghost use Rattle.std.specs.Prelude.{◌≡◌, ◌<◌, ◌≤◌, ◌+◌, ◌⊎◌, IfSome, IfNone};
 ghost use Rattle.zs_term.specs.Schedule.{schedule_of, is_within_limits, has_factors, has_windows, depth, weight};
 
 use crate::forms::{Action, Counted, Shape, Subject};
@@ -17,17 +17,6 @@ pub(crate) fn is_within_limits(term: &Term) -> bool
     ensures value { result ≡ is_within_limits (schedule_of term.now) }
 {
     room_left(term, MAX_DEPTH, MAX_WEIGHT).is_some()
-}
-
-// Returns the weight of a term that is within the limits.
-pub(crate) fn weight_within(term: &Term) -> u64
-    requires within { is_within_limits (schedule_of term.now) ≡ true }
-    ensures value { result ≡ weight (schedule_of term.now) }
-{
-    match room_left(term, MAX_DEPTH, MAX_WEIGHT) {
-        Some(room) => MAX_WEIGHT - room,
-        None => MAX_WEIGHT,
-    }
 }
 
 // Returns the number of nodes that remain of `nodes`, if the term has no more of them and no more

@@ -76,10 +76,10 @@ pub fn append_number(text: &mut String, n: u64) -> Result<(), NoMemory>
     text.push_str(buffer.format(n))
 }
 
-/// Appends the text of a list of outputs. If that fails, the text may end with a part of it.
+// Appends the text of a list of outputs. If that fails, the text may end with a part of it.
 #[tactic(auto, using(crate::proofs::Texts::begins_with_itself, crate::proofs::Texts::begins_pushed, crate::proofs::Texts::begins_both))]
 #[cycle(texts)]
-pub fn append_outs(text: &mut String, outs: &Outs) -> Result<(), NoMemory>
+pub(crate) fn append_outs(text: &mut String, outs: &Outs) -> Result<(), NoMemory>
     ensures ok { OnOk result
         (Adds text.old text.new (output_text (listed (outputs_of (outs_list outs.now))))) }
     ensures kept { Extends text.old text.new }

@@ -61,7 +61,7 @@ impl Outs {
     }
 
     /// Returns the same list once more, in the same memory. If that fails, this one is unchanged.
-    pub fn share(&mut self, alloc: Global) -> Result<Outs, AllocError>
+    pub fn share(&mut self) -> Result<Outs, AllocError>
         ensures ok { IfOk result (λ r. outs_list r ≡ outs_list self.old) }
         ensures same { outs_list self.new ≡ outs_list self.old }
     {
@@ -70,6 +70,7 @@ impl Outs {
                 storage: Storage::Shared(Arc::try_clone(items)?),
             }),
             Storage::Own(items) => {
+                let alloc = *items.allocator();
                 let shared = match Arc::new(alloc, replace(items, Vec::new(alloc))) {
                     Ok(shared) => shared,
                     Err(refused) => {
@@ -88,12 +89,12 @@ impl Outs {
 
     /// Appends an output. The list is changed in place if no other list shares its memory, else
     /// copied.
-    pub fn push(&mut self, alloc: Global, out: Out) -> Result<(), AllocError>
+    pub fn push(&mut self, out: Out) -> Result<(), AllocError>
         ensures pushed { OnOk result (Appends (outs_list self.old) (outs_list self.new) out) }
     {
         match &mut self.storage {
             Storage::Own(items) => push_own(items, out),
-            Storage::Shared(items) => push_shared(items, alloc, out),
+            Storage::Shared(items) => push_shared(items, out),
         }
     }
 }
@@ -108,13 +109,14 @@ fn push_own(items: &mut Vec<Out>, out: Out) -> Result<(), AllocError>
 }
 
 // Appends an output to a list with shared memory.
-fn push_shared(shared: &mut Arc<Vec<Out>>, alloc: Global, out: Out) -> Result<(), AllocError>
+fn push_shared(shared: &mut Arc<Vec<Out>>, out: Out) -> Result<(), AllocError>
     ensures pushed { OnOk result
         (Appends (arc_value shared.old).items (arc_value shared.new).items out) }
 {
     if let Some(items) = Arc::get_mut(shared) {
         return push_own(items, out);
     }
+    let alloc = *shared.allocator();
     let mut items = copy_all(alloc, shared)?;
     push_own(&mut items, out)?;
     *shared = Arc::new(alloc, items)?;
@@ -132,7 +134,7 @@ impl Out {
             Out::Pair(a, b) => make_pair(alloc, a.copy(alloc)?, b.copy(alloc)?),
             Out::Left(a) => make_left(alloc, a.copy(alloc)?),
             Out::Right(a) => make_right(alloc, a.copy(alloc)?),
-            Out::Items(outs) => Ok(Out::Items(outs.copy(alloc)?)),
+            Out::Items(outs) => Ok(Out::Items(outs.copy()?)),
         }
     }
 
@@ -160,11 +162,11 @@ impl Out {
 impl Outs {
     /// Returns a list of the same values. It shares the memory of a list that shares its own.
     #[cycle(copy)]
-    pub fn copy(&self, alloc: Global) -> Result<Outs, AllocError>
+    pub fn copy(&self) -> Result<Outs, AllocError>
         ensures ok { IfOk result (λ r. outputs_of (outs_list r) ≡ outputs_of (outs_list self.now)) }
     {
         match &self.storage {
-            Storage::Own(items) => Ok(Outs::new(copy_all(alloc, items)?)),
+            Storage::Own(items) => Ok(Outs::new(copy_all(*items.allocator(), items)?)),
             Storage::Shared(items) => Ok(Outs {
                 storage: Storage::Shared(Arc::try_clone(items)?),
             }),

@@ -1,10 +1,11 @@
 //! The parser: what has been read of a text, and which token may come next.
 
-ghost use Rattle.std.specs.Prelude.{◌≡◌, Some, ◌∷◌, option_map, IfOk, OnOk};
+ghost use Rattle.std.specs.Prelude.{◌≡◌, ◌<◌, Some, ◌∷◌, option_map, IfOk};
 ghost use Rattle.zs_term.specs.Token.{Token};
 ghost use Rattle.zs_term.specs.Scan.{IsLexeme};
 ghost use Rattle.zs_term.specs.Machine.{argument, begin_leaf, open_mark, close_mark, base_mark, dot_mark, pick_mark, test_mark, map_mark, inner_mark, join_mark, step_mark, step_number, step, left};
 ghost use Rattle.zs_term.specs.Parts.{kept_of, stage_of, stack_of, state_in, keep, Reaches, Finishes};
+ghost use Rattle.zs_term.specs.Saturating.{max_moment};
 
 use crate::forms::{Action, Counted, Infix, Method, Scale, Subject};
 use crate::part::Part;
@@ -12,13 +13,13 @@ use crate::term::{Cmp, Func, Pick};
 use crate::token::{Lexeme, Mark};
 use std::alloc::{AllocError, Global};
 
-/// A parser: whether it builds terms, and the open infix forms. A `(` takes no memory until its
-/// operator is read.
+/// A parser: whether it still builds terms, and the open infix forms. A `(` takes no memory until
+/// its operator is read.
 #[derive(Drop)]
 pub(crate) struct Parser {
     /// The allocator.
     pub alloc: Global,
-    /// Whether it builds terms.
+    /// Whether it builds terms. Past a limit it goes on with sizes alone.
     pub build: bool,
     /// The number of innermost `(` without an operator.
     pub bare: u64,
@@ -182,14 +183,14 @@ impl Parser {
         }))
     }
 
-    // Counts one more `(`. The counter can't overflow, since no text is that long.
+    // Counts one more `(`.
     #[tactic(auto, using(crate::proofs::Stacks::bare_more))]
-    fn open(&mut self) -> Result<(), AllocError>
-        ensures value { OnOk result (stack_of self.new ≡ left ∷ stack_of self.old) }
+    fn open(&mut self)
+        requires room { self.old.bare < max_moment }
+        ensures value { stack_of self.new ≡ left ∷ stack_of self.old }
         ensures build { self.new.build ≡ self.old.build }
     {
-        self.bare = self.bare.checked_add(1).ok_or(AllocError)?;
-        Ok(())
+        self.bare += 1;
     }
 
     // The token after a whole term, if it isn't a dot.
@@ -248,6 +249,7 @@ impl Parser {
     // Returns the stage after a word or symbol, or nothing if it may not come.
     #[tactic(auto, using(crate::proofs::Stacks::map_map))]
     fn after_mark(&mut self, stage: Stage, mark: Mark) -> Result<Option<Stage>, AllocError>
+        requires room { self.old.bare < max_moment }
         ensures value { IfOk result (λ next. Reaches self.new next
             (step_mark (keep self.old.build) (stack_of self.old) (stage_of stage) mark)) }
         ensures build { self.new.build ≡ self.old.build }
@@ -255,7 +257,7 @@ impl Parser {
         match stage {
             Stage::Start => match mark {
                 Mark::Open => {
-                    self.open()?;
+                    self.open();
                     Ok(Some(Stage::Start))
                 }
                 _ => self.begin_leaf(mark),
@@ -300,6 +302,7 @@ impl Parser {
         stage: Stage,
         lexeme: Lexeme,
     ) -> Result<Option<Stage>, AllocError>
+        requires room { self.old.bare < max_moment }
         ensures value { (t : Token) → IsLexeme lexeme t → IfOk result (λ next.
             Reaches self.new next (step (keep self.old.build) (Some (state_in self.old stage)) t)) }
         ensures build { self.new.build ≡ self.old.build }

@@ -1,8 +1,8 @@
 //! Whole terms that the parser has composed.
 
-ghost use Rattle.std.specs.Prelude.{◌≡◌, IfOk, option_map};
+ghost use Rattle.std.specs.Prelude.{◌≡◌, IfOk, option_map, true, false};
 ghost use Rattle.zs_term.specs.Schedule.{schedule_of};
-ghost use Rattle.zs_term.specs.Parts.{kept_of, keep, keep_join, keep_test, keep_collect, keep_apply, keep_scale, keep_above};
+ghost use Rattle.zs_term.specs.Parts.{kept_of, keep, keep_join, keep_test, keep_collect, keep_apply, keep_scale, keep_above, sizes_of};
 
 use crate::forms::{Counted, Infix, Plain, Scale, Subject};
 use crate::term::{Cmp, Func, Term, Test};
@@ -21,6 +21,18 @@ pub struct Part {
 }
 
 impl Part {
+    /// Drops the term if the schedule is past a limit.
+    pub(crate) fn unless(self, past: bool) -> Part
+        ensures past { past ≡ true → kept_of result ≡ sizes_of (kept_of self) }
+        ensures same { past ≡ false → kept_of result ≡ kept_of self }
+    {
+        Part {
+            depth: self.depth,
+            weight: self.weight,
+            term: if past { None } else { self.term },
+        }
+    }
+
     /// Makes a leaf without numbers.
     pub(crate) fn plain_leaf(alloc: Global, build: bool, form: Plain) -> Result<Part, AllocError>
         ensures value { IfOk result (λ part. kept_of part ≡ (keep build).plain form) }

@@ -1,7 +1,7 @@
 //! Reads schedules from their text.
 
 ghost use Rattle.std.specs.Prelude.{◌≡◌, IfOk, IfErr};
-ghost use Rattle.zs_term.specs.Schedule.{Schedule, schedule_of};
+ghost use Rattle.zs_term.specs.Schedule.{schedule_of};
 ghost use Rattle.zs_term.specs.Token.{Token};
 ghost use Rattle.zs_term.specs.Parts.{kept_of};
 ghost use Rattle.zs_term.specs.Scan.{IsLexeme};
@@ -33,13 +33,13 @@ fn huge_after(huge: Option<u64>, place: usize, lexeme: Lexeme) -> Option<u64>
 }
 
 // Parses the whole text: returns the part, and the place of the first number that doesn't fit.
-fn whole(alloc: Global, build: bool, text: &[u8]) -> Result<(Part, Option<u64>), TermFault>
-    ensures ok { IfOk result (λ found. IsWhole build text.now (kept_of found.0) found.1) }
+fn whole(alloc: Global, text: &[u8]) -> Result<(Part, Option<u64>), TermFault>
+    ensures ok { IfOk result (λ found. IsWhole text.now (kept_of found.0) found.1) }
     ensures err { IfErr result (IsCause text.now) }
 {
     let mut parser = Parser {
         alloc,
-        build,
+        build: true,
         bare: 0,
         joined: Vec::new(alloc),
     };
@@ -59,7 +59,7 @@ fn whole(alloc: Global, build: bool, text: &[u8]) -> Result<(Part, Option<u64>),
                 Err(_) => return Err(TermFault::Memory),
                 Ok(None) => return Err(TermFault::NoTerm { at: place as u64 }),
                 Ok(Some(next)) => {
-                    stage = next;
+                    stage = parser.watch(next);
                     huge = huge_after(huge, place, lexeme);
                     from = end;
                 }
@@ -68,32 +68,12 @@ fn whole(alloc: Global, build: bool, text: &[u8]) -> Result<(Part, Option<u64>),
     }
 }
 
-// Builds the term of a text that spells a term within the limits, with numbers that fit.
-fn build_term(alloc: Global, text: &[u8]) -> Result<Term, TermFault>
-    requires spelled { (t : Schedule) × IsRead text.now t }
-    ensures ok { IfOk result (λ term. IsRead text.now (schedule_of term)) }
-    ensures err { IfErr result (IsCause text.now) }
-{
-    let (part, _huge) = whole(alloc, true, text)?;
-    match part.term {
-        Some(term) => Ok(Box::into_inner(term)),
-        None => unreachable!(),
-    }
-}
-
-// The length in bytes up to which a term is built at once, before its sizes are known. A text of
-// this length is at most 512 deep.
-const SHORT: usize = 4096;
-
-// Returns the term that a text spells, if it is within the limits and its numbers fit. A text of at
-// most `SHORT` bytes is read once. A longer text is read twice: no term is built until its sizes
-// are known.
+// Returns the term that a text spells, if it is within the limits and its numbers fit.
 fn term_in(alloc: Global, text: &[u8]) -> Result<Term, TermFault>
     ensures ok { IfOk result (λ term. IsRead text.now (schedule_of term)) }
     ensures err { IfErr result (IsCause text.now) }
 {
-    let build = text.len() <= SHORT;
-    let (part, huge) = whole(alloc, build, text)?;
+    let (part, huge) = whole(alloc, text)?;
     if MAX_DEPTH < part.depth || MAX_WEIGHT < part.weight {
         return Err(TermFault::TooBig);
     }
@@ -102,7 +82,7 @@ fn term_in(alloc: Global, text: &[u8]) -> Result<Term, TermFault>
     }
     match part.term {
         Some(term) => Ok(Box::into_inner(term)),
-        None => build_term(alloc, text),
+        None => unreachable!(),
     }
 }
 

@@ -1,8 +1,7 @@
 //! Writes a term as a program.
 
 ghost use Rattle.std.specs.Prelude.{◌≡◌, ◌⊎◌, ◌+◌, ◌*◌, ◌≤◌, true, false, [], ◌++◌, length, IfOk, IfErr};
-ghost use Rattle.zs_term.specs.Schedule.{schedule_of, weight};
-ghost use Rattle.zs_term.specs.declared.limits.TheConstants.{MAX_WEIGHT};
+ghost use Rattle.zs_term.specs.Schedule.{schedule_of, weight, max_weight};
 ghost use Rattle.zs_step.specs.Memory.{keeps_no_list};
 ghost use Rattle.zs_c.specs.Code.{ListsOne, code_of, held_of, held_size, pair_code, cmp_word, pick_word, func_word, func_number};
 ghost use Rattle.zs_c.specs.Program.{program_of, program_state};
@@ -37,7 +36,7 @@ pub(crate) fn new_program(alloc: Global, checked: &Checked) -> Result<(Vec<u64>,
 // Appends the code of a term. Returns the number of words of the term's state.
 #[cycle(coding)]
 fn write_code(alloc: Global, term: &Term, code: &mut Vec<u64>) -> Result<u64, Refusal>
-    requires small { weight (schedule_of term.now) ≤ MAX_WEIGHT }
+    requires small { weight (schedule_of term.now) ≤ max_weight }
     ensures code { IfOk result (λ _. code.new.items
         ≡ code.old.items ++ code_of (schedule_of term.now)) }
     ensures state { IfOk result (λ n. n ≡ held_size (schedule_of term.now)) }
@@ -101,7 +100,7 @@ fn write_parts(
     b: &Term,
     code: &mut Vec<u64>,
 ) -> Result<u64, Refusal>
-    requires small { weight (schedule_of a.now) + weight (schedule_of b.now) ≤ MAX_WEIGHT }
+    requires small { weight (schedule_of a.now) + weight (schedule_of b.now) ≤ max_weight }
     ensures code { IfOk result (λ _. code.new.items
         ≡ code.old.items ++ pair_code tag (schedule_of a.now) (schedule_of b.now)) }
     ensures state { IfOk result (λ n. n

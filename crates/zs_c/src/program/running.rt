@@ -3,7 +3,6 @@
 ghost use Rattle.std.specs.Prelude.{◌≡◌, ◌+◌, ◌≤◌, List, ℕ, [], ◌∷◌, length, drop, slice_index_or, IfOk, IfErr};
 ghost use Rattle.zs_term.specs.OutputText.{output_text};
 ghost use Rattle.zs_term.specs.Schedule.{Schedule};
-ghost use Rattle.zs_term.specs.declared.limits.TheConstants.{MAX_DEPTH};
 ghost use Rattle.zs_c.specs.Told.{written};
 ghost use Rattle.zs_c.specs.Program.{IsChecked, IsProgram};
 ghost use Rattle.zs_c.specs.Opened.{OfEachOutput, Opens, StepsOpened};

@@ -2,7 +2,6 @@
 
 ghost use Rattle.std.specs.Prelude.{◌≡◌, ℕ, ◌+◌};
 ghost use Rattle.zs_term.specs.Output.{Output, passes, picked};
-ghost use Rattle.zs_term.specs.declared.limits.TheConstants.{MAX_WEIGHT};
 ghost use Rattle.zs_c.specs.Steps.{StepsWords, StepsParts, StepsInTurn};
 ghost use Rattle.zs_c.specs.View.{Tells};
 

@@ -1,5 +1,5 @@
 //! How the tasks of a round are shared out, and the limits.
-ghost use Rattle.std.specs.Prelude.{◌≡◌, ◌≤◌, ◌↔◌, ◌==◌, ◌||◌, nat_le, IsSome, IfSome};
+ghost use Rattle.std.specs.Prelude.{◌≡◌, ◌≤◌, ◌↔◌, IsSome, IfSome};
 ghost use Rattle.zs_pool.specs.Limits.{max_workers, max_tasks};
 ghost use Rattle.zs_pool.specs.Batches.{IsCut};
 
@@ -42,12 +42,5 @@ impl Cut {
         ensures value { result ≡ self.now.grain }
     {
         self.grain
-    }
-
-    /// Whether one worker polls all of this number of due tasks: there is one worker, or one batch.
-    pub fn is_for_one(&self, due: u64) -> bool
-        ensures value { result ≡ (self.now.workers == 1 || nat_le due self.now.grain) }
-    {
-        self.workers == 1 || due <= self.grain
     }
 }

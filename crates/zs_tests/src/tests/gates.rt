@@ -468,8 +468,20 @@ impl Record {
         Ok(told)
     }
 
-    /// Returns the number of passes that came at an earlier moment than a pass before them, or got
-    /// fewer polls than the passes at earlier moments, or more than the passes so far.
+    // Returns the number of passes of a job at a moment.
+    fn passes_at(&self, job: u64, now: u64) -> u64 {
+        let mut passes = 0u64;
+        for entry in self.entries.iter() {
+            if entry.job.load(Ordering::SeqCst) == job && entry.now.load(Ordering::SeqCst) == now {
+                passes = passes.wrapping_add(1);
+            }
+        }
+        passes
+    }
+
+    /// Returns the number of passes that came at an earlier moment than a pass before them, or at
+    /// that of another pass of their job, or got fewer polls than the passes at earlier moments, or
+    /// more than the passes so far.
     pub fn wrong(&self) -> u64 {
         let (mut wrong, mut latest, mut earlier) = (0u64, 0u64, 0u64);
         for (place, entry) in self.entries.iter().enumerate() {
@@ -479,7 +491,8 @@ impl Record {
                 latest = now;
                 earlier = place as u64;
             }
-            if now < latest || done < earlier || done > place as u64 {
+            let times = self.passes_at(entry.job.load(Ordering::SeqCst), now);
+            if now < latest || times > 1 || done < earlier || done > place as u64 {
                 wrong = wrong.wrapping_add(1);
             }
         }

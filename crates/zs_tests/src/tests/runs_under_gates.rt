@@ -115,7 +115,7 @@ fn each_pass_is_told_the_moment_of_its_round(rt: HostRuntime) -> Result<(), Fail
 
 // The passes of 64 jobs, polled three times each, by one thread and by several.
 #[test]
-fn the_moments_of_a_plans_run_never_fall(rt: HostRuntime) -> Result<(), Fail> {
+fn each_job_is_polled_at_rising_moments(rt: HostRuntime) -> Result<(), Fail> {
     for (workers, grain) in [(1u64, 1u64), (2, 20), (7, 3), (64, 1), (64, 10_000)] {
         let gate = Record::of(rt.alloc(), 192)?;
         expect_report_of(&rt, rt.alloc(), &gate, NAMES, workers, grain)?;

@@ -126,12 +126,12 @@ fn use_shelf<R: Wait>(
     let Ok((mut first, mut second)) = split else {
         unreachable!()
     };
-    let _ = put(rt, &shelf, &mut first, polled_of(alloc, 7, 5));
-    let refused = match put(rt, &shelf, &mut second, polled_of(alloc, 8, 5)) {
+    let _ = put(rt, &shelf, &mut second, polled_of(alloc, 7, 5));
+    let refused = match put(rt, &shelf, &mut first, polled_of(alloc, 8, 5)) {
         Ok(()) => None,
         Err((back, fault)) => Some((back.number, fault)),
     };
-    let taken = match take(rt, &shelf, &mut second) {
+    let taken = match take(rt, &shelf, &mut first) {
         Some(polled) => Some((polled.number, polled.now)),
         None => None,
     };

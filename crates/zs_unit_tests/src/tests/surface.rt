@@ -5,14 +5,14 @@ ghost use Rattle.zs_drive.specs.Clocks.{max_tick};
 ghost use Rattle.zs_step.specs.Compiled.{last_seen};
 ghost use Rattle.zs_step.specs.History.{history_of, IsInOrder};
 
-use super::support::expect_text;
+use super::support::{expect_text, push_record};
 use futures::Future;
 use futures::task::{Context, Poll};
 use std::alloc::{Alloc, AllocError, Global};
 use std::process::Abort;
 use std::test::Fail;
 use zs_agenda::{Agenda, AgendaFault, Clock};
-use zs_drive::{Attempted, DriveFault, Ended, Ending, Job, Mode, Task, append_attempt};
+use zs_drive::{Attempted, DriveFault, Ended, Ending, Job, Mode, Task};
 use zs_effect::{Attempt, Beat, Outcome, Script, ScriptFault};
 use zs_step::{Compiled, Decision, Interval, StepFault, Stepped, follow, plain};
 use zs_term::{
@@ -207,12 +207,11 @@ fn list_of(alloc: Global) -> Result<Outs, AllocError> {
     Ok(Outs::new(items))
 }
 
-// The pair of a left side, and of that list on the right.
+// The pair of a left side and of that list.
 fn output_of(alloc: Global) -> Result<Out, AllocError> {
     let left: Box<Out> = boxed(alloc, Out::Num(1))?;
     let left: Box<Out> = boxed(alloc, Out::Left(left))?;
     let right: Box<Out> = boxed(alloc, Out::Items(list_of(alloc)?))?;
-    let right: Box<Out> = boxed(alloc, Out::Right(right))?;
     Ok(Out::Pair(left, right))
 }
 
@@ -227,7 +226,10 @@ fn each_form_of_an_output_has_its_text(rt: HostRuntime) {
     let out: Out = output_of(rt.alloc()).expect(&rt, "memory");
     let text: Result<String, NoMemory> = write_out(rt.alloc(), &out);
     let text = text.expect(&rt, "memory");
-    expect_text(&rt, &text, "(Left(1),Right([2,3]))", "the output");
+    expect_text(&rt, &text, "(Left(1),[2,3])", "a left side and a list");
+    let out: Out = Out::Right(boxed(rt.alloc(), out).expect(&rt, "memory"));
+    let text = write_out(rt.alloc(), &out).expect(&rt, "memory");
+    expect_text(&rt, &text, "Right((Left(1),[2,3]))", "a right side");
     let list = list_of(rt.alloc()).expect(&rt, "memory");
     assert!(rt; count_of(&list) == 2);
 }
@@ -401,23 +403,18 @@ fn ended_of(at: u64, outcome: Outcome, step: Option<(Out, Decision)>) -> Ended {
     Ended { at, outcome, step }
 }
 
-// The lines of a record.
-fn lines_of(alloc: Global, record: &Attempted) -> Result<String, AllocError> {
+// The text of a record.
+fn text_of(alloc: Global, record: &Attempted) -> Result<String, AllocError> {
     let mut text = String::new(alloc);
-    append_attempt(&mut text, 1, record)?;
+    push_record(&mut text, record)?;
     Ok(text)
 }
 
 #[test]
 fn a_record_has_its_attempts_end_and_step(rt: HostRuntime) -> Result<(), Fail> {
     let ended = ended_of(5, Outcome::Bad(7), Some((Out::Num(0), Decision::Stop)));
-    let found = lines_of(rt.alloc(), &record_of(2, Some(ended)))?;
-    expect_text(
-        &rt,
-        &found,
-        "attempt 1 2..5 err 7\nstep 1 out 0 done\n",
-        "a record",
-    );
+    let found = text_of(rt.alloc(), &record_of(2, Some(ended)))?;
+    expect_text(&rt, &found, "2..5 Bad(7) 0 Stop\n", "a record");
     Ok(())
 }
 

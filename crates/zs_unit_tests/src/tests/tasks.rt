@@ -1,7 +1,7 @@
 //! Jobs that are polled by hand, at each millisecond at which they are due, and at other moments.
 ghost use Rattle.std.specs.Prelude.{◌≡◌, ◌≤◌, ◌<◌, IfOk};
 
-use super::support::expect_text;
+use super::support::{expect_text, push_record};
 use futures::Future;
 use futures::task::{Doorbell, Poll, Solo};
 use std::alloc::{Alloc, AllocError, Global};
@@ -9,7 +9,7 @@ use std::fmt::Write;
 use std::process::Abort;
 use std::random::RandomSource;
 use std::test::Fail;
-use zs_drive::{DriveFault, Ending, Job, Keeping, Mode, Task, append_attempt};
+use zs_drive::{DriveFault, Ending, Job, Mode, Task};
 use zs_effect::{Beat, Outcome, Script};
 use zs_term::read;
 
@@ -22,8 +22,8 @@ enum Polling<'a> {
     Due(u64),
     // At these moments, due or not: the result of each poll.
     Results(&'a [u64]),
-    // At these moments, due or not: what it stores in this way, before and after each poll.
-    Logs(Keeping, &'a [u64]),
+    // At these moments, due or not: its records, before and after each poll.
+    Records(&'a [u64]),
 }
 
 // A name, a task, its polls, and what is said of it.
@@ -48,15 +48,12 @@ fn job_of(alloc: Global, given: &Given<'_>) -> Result<Job, Fail> {
     })
 }
 
-// Makes a task. What it stores is the default, unless its log is described.
-fn task_of(alloc: Global, given: &Given<'_>, polls: &Polling<'_>) -> Result<Task, Fail>
+// Makes a task.
+fn task_of(alloc: Global, given: &Given<'_>) -> Result<Task, Fail>
     ensures seen { IfOk result (λ task. task.seen ≡ 0) }
 {
     let job = job_of(alloc, given)?;
-    match polls {
-        Polling::Logs(keeps, _) => Ok(Task::keeping(alloc, given.0, job, *keeps)?),
-        Polling::Due(_) | Polling::Results(_) => Ok(Task::new(alloc, given.0, job)?),
-    }
+    Ok(Task::new(alloc, given.0, job)?)
 }
 
 // Polls a task. Callers know nothing about a mock but this contract.
@@ -113,25 +110,14 @@ fn push_known(text: &mut String, task: &Task) -> Result<(), AllocError> {
     )
 }
 
-// Appends the lines of the attempts that a task stores as records.
+// Appends the number of due polls, the ending, and the records of a task.
 fn push_records(text: &mut String, task: &Task) -> Result<(), AllocError> {
-    let mut number = task.told_count().saturating_add(1);
+    let (polls, ending) = (task.polls(), task.ending());
+    write!(text, "{polls} polls, ending {ending:?}\n")?;
     for record in task.records() {
-        append_attempt(text, number, record)?;
-        number = number.saturating_add(1);
+        push_record(text, record)?;
     }
     Ok(())
-}
-
-// Appends the lines that a task stores, between the number of attempts in them and the number of
-// records, and then the lines of the records.
-fn push_log(text: &mut String, task: &Task) -> Result<(), AllocError> {
-    let (polls, ending) = (task.polls(), task.ending());
-    let (told, recorded) = (task.told_count(), task.records().len());
-    write!(text, "{polls} polls, ending {ending:?}, {told} told\n")?;
-    text.push_str(task.lines())?;
-    write!(text, "{recorded} recorded\n")?;
-    push_records(text, task)
 }
 
 // Polls a task at this moment, due or not.
@@ -164,28 +150,28 @@ fn push_result(
 }
 
 // Polls a new task at these moments, due or not. Appends what is known of it before, and the
-// result of each poll, or what it stores before and after each poll.
+// result of each poll, or its records before and after each poll.
 fn poll_at_each<R: Abort>(
     rt: &R,
     solo: &Solo,
     task: &mut Task,
     moments: &[u64],
-    is_log: bool,
+    has_records: bool,
     text: &mut String,
 ) -> Result<(), AllocError>
     requires seen { task.old.seen ≡ 0 }
 {
     push_known(text, task)?;
-    if is_log {
-        push_log(text, task)?;
+    if has_records {
+        push_records(text, task)?;
     }
     let mut last = 0;
     for moment in moments {
         let now = *moment;
         let polled = poll_next(rt, solo, task, last, now);
         last = now;
-        if is_log {
-            push_log(text, task)?;
+        if has_records {
+            push_records(text, task)?;
         } else {
             push_result(text, task, polled)?;
         }
@@ -210,7 +196,7 @@ fn push_polls<R: Abort>(
             push_standing(text, task)
         }
         Polling::Results(moments) => poll_at_each(rt, solo, task, moments, false, text),
-        Polling::Logs(_, moments) => poll_at_each(rt, solo, task, moments, true, text),
+        Polling::Records(moments) => poll_at_each(rt, solo, task, moments, true, text),
     }
 }
 
@@ -221,7 +207,7 @@ fn described<R: Abort + Alloc<A = Global> + RandomSource>(
     polls: &Polling<'_>,
 ) -> Result<String, Fail> {
     let solo = Solo::new(rt, Doorbell::spinning())?;
-    let mut task = task_of(rt.alloc(), given, polls)?;
+    let mut task = task_of(rt.alloc(), given)?;
     let mut text = String::new(rt.alloc());
     let polled = push_polls(rt, &solo, &mut task, polls, &mut text);
     drop(task);
@@ -364,9 +350,9 @@ fn each_poll_returns_what_is_listed(rt: HostRuntime) -> Result<(), Fail> {
     expect_tasks(&rt, &POLLS)
 }
 
-static LOGS: [Row<'static>; 5] = [
+static RECORDS: [Row<'static>; 4] = [
     (
-        "a_task_that_keeps_lines_tells_an_attempt_as_it_ends",
+        "an_attempt_is_a_record_while_it_runs_and_after_its_end",
         (
             7,
             Mode::Retry,
@@ -374,139 +360,81 @@ static LOGS: [Row<'static>; 5] = [
             2,
             &[bad!(5, 7), bad!(3, 8), good!(4, 1)],
         ),
-        Polling::Logs(Keeping::Lines, &[2, 7, 17, 20, 30, 34]),
+        Polling::Records(&[2, 7, 17, 20, 30, 34]),
         "7 a Retry, broken false, due Some(2)
-0 polls, ending None, 0 told
-0 recorded
-1 polls, ending None, 0 told
-1 recorded
-attempt 1 2.. running
-2 polls, ending None, 1 told
-attempt 1 2..7 err 7
-step 1 out 0 next 17
-0 recorded
-3 polls, ending None, 1 told
-attempt 1 2..7 err 7
-step 1 out 0 next 17
-1 recorded
-attempt 2 17.. running
-4 polls, ending None, 2 told
-attempt 1 2..7 err 7
-step 1 out 0 next 17
-attempt 2 17..20 err 8
-step 2 out 1 next 30
-0 recorded
-5 polls, ending None, 2 told
-attempt 1 2..7 err 7
-step 1 out 0 next 17
-attempt 2 17..20 err 8
-step 2 out 1 next 30
-1 recorded
-attempt 3 30.. running
-6 polls, ending Some(Succeeded(1)), 2 told
-attempt 1 2..7 err 7
-step 1 out 0 next 17
-attempt 2 17..20 err 8
-step 2 out 1 next 30
-1 recorded
-attempt 3 30..34 ok 1
+0 polls, ending None
+1 polls, ending None
+2..
+2 polls, ending None
+2..7 Bad(7) 0 Next(17)
+3 polls, ending None
+2..7 Bad(7) 0 Next(17)
+17..
+4 polls, ending None
+2..7 Bad(7) 0 Next(17)
+17..20 Bad(8) 1 Next(30)
+5 polls, ending None
+2..7 Bad(7) 0 Next(17)
+17..20 Bad(8) 1 Next(30)
+30..
+6 polls, ending Some(Succeeded(1))
+2..7 Bad(7) 0 Next(17)
+17..20 Bad(8) 1 Next(30)
+30..34 Good(1)
 ",
     ),
     (
-        "an_attempt_is_told_in_the_poll_that_ends_it_where_the_next_begins",
+        "one_poll_ends_an_attempt_and_begins_the_next",
         (7, Mode::Repeat, "recurs(5)", 0, &[good!(2, 1), bad!(3, 4)]),
-        Polling::Logs(Keeping::Lines, &[0, 2, 5]),
+        Polling::Records(&[0, 2, 5]),
         "7 a Repeat, broken false, due Some(0)
-0 polls, ending None, 0 told
-0 recorded
-1 polls, ending None, 0 told
-1 recorded
-attempt 1 0.. running
-2 polls, ending None, 1 told
-attempt 1 0..2 ok 1
-step 1 out 0 next 2
-1 recorded
-attempt 2 2.. running
-3 polls, ending Some(Failed(4)), 1 told
-attempt 1 0..2 ok 1
-step 1 out 0 next 2
-1 recorded
-attempt 2 2..5 err 4
+0 polls, ending None
+1 polls, ending None
+0..
+2 polls, ending None
+0..2 Good(1) 0 Next(2)
+2..
+3 polls, ending Some(Failed(4))
+0..2 Good(1) 0 Next(2)
+2..5 Bad(4)
 ",
     ),
     (
-        "the_step_that_is_done_is_told_of_the_last_record",
+        "the_last_record_has_the_step_that_is_done",
         (7, Mode::Repeat, "recurs(1)", 0, &[good!(3, 9)]),
-        Polling::Logs(Keeping::Lines, &[0, 3, 6]),
+        Polling::Records(&[0, 3, 6]),
         "7 a Repeat, broken false, due Some(0)
-0 polls, ending None, 0 told
-0 recorded
-1 polls, ending None, 0 told
-1 recorded
-attempt 1 0.. running
-2 polls, ending None, 1 told
-attempt 1 0..3 ok 9
-step 1 out 0 next 3
-1 recorded
-attempt 2 3.. running
-3 polls, ending Some(Finished), 1 told
-attempt 1 0..3 ok 9
-step 1 out 0 next 3
-1 recorded
-attempt 2 3..6 ok 9
-step 2 out 1 done
+0 polls, ending None
+1 polls, ending None
+0..
+2 polls, ending None
+0..3 Good(9) 0 Next(3)
+3..
+3 polls, ending Some(Finished)
+0..3 Good(9) 0 Next(3)
+3..6 Good(9) 1 Stop
 ",
     ),
     (
-        "an_early_poll_and_one_of_an_ended_task_tell_nothing_new",
+        "an_early_poll_and_one_of_an_ended_task_record_nothing",
         (7, Mode::Retry, "recurs(0)", 1, &[bad!(4, 7)]),
-        Polling::Logs(Keeping::Lines, &[0, 2, 5, 8, 9]),
+        Polling::Records(&[0, 2, 5, 8, 9]),
         "7 a Retry, broken false, due Some(1)
-0 polls, ending None, 0 told
-0 recorded
-0 polls, ending None, 0 told
-0 recorded
-1 polls, ending None, 0 told
-1 recorded
-attempt 1 2.. running
-1 polls, ending None, 0 told
-1 recorded
-attempt 1 2.. running
-2 polls, ending Some(Failed(7)), 0 told
-1 recorded
-attempt 1 2..8 err 7
-step 1 out 0 done
-2 polls, ending Some(Failed(7)), 0 told
-1 recorded
-attempt 1 2..8 err 7
-step 1 out 0 done
-",
-    ),
-    (
-        "a_task_that_keeps_records_tells_no_lines",
-        (7, Mode::Repeat, "recurs(5)", 0, &[good!(2, 1), bad!(3, 4)]),
-        Polling::Logs(Keeping::Records, &[0, 2, 5]),
-        "7 a Repeat, broken false, due Some(0)
-0 polls, ending None, 0 told
-0 recorded
-1 polls, ending None, 0 told
-1 recorded
-attempt 1 0.. running
-2 polls, ending None, 0 told
-2 recorded
-attempt 1 0..2 ok 1
-step 1 out 0 next 2
-attempt 2 2.. running
-3 polls, ending Some(Failed(4)), 0 told
-2 recorded
-attempt 1 0..2 ok 1
-step 1 out 0 next 2
-attempt 2 2..5 err 4
+0 polls, ending None
+0 polls, ending None
+1 polls, ending None
+2..
+1 polls, ending None
+2..
+2 polls, ending Some(Failed(7))
+2..8 Bad(7) 0 Stop
+2 polls, ending Some(Failed(7))
+2..8 Bad(7) 0 Stop
 ",
     ),
 ];
 
 #[test]
-fn each_task_reports_the_attempts_that_are_listed(rt: HostRuntime) -> Result<(), Fail> {
-    expect_tasks(&rt, &LOGS)
+fn each_task_has_the_records_that_are_listed(rt: HostRuntime) -> Result<(), Fail> {
+    expect_tasks(&rt, &RECORDS)
 }

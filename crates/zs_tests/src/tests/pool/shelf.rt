@@ -62,6 +62,18 @@ fn put_by_turns<R: Wait + Abort>(rt: &R, alloc: Global, shelf: &Shelf, pass: She
 }
 
 #[test]
+fn a_shelf_of_one_is_full_after_a_put_and_empty_after_a_take(rt: HostRuntime) -> Result<(), Fail> {
+    let alloc = rt.alloc();
+    let (shelf, mut pass) = Shelf::new(&rt, alloc, 1)?;
+    assert!(rt; put(&rt, alloc, &shelf, &mut pass, 0).is_ok());
+    assert!(rt; put(&rt, alloc, &shelf, &mut pass, 1) == Err((1, PoolFault::Full)));
+    assert!(rt; take(&rt, &shelf, &mut pass) == Some(0));
+    assert!(rt; take(&rt, &shelf, &mut pass).is_none());
+    expect_left(&rt, &shelf.close(&rt, alloc, pass)?, &[]);
+    Ok(())
+}
+
+#[test]
 fn what_two_passes_put_is_taken_in_order_after_their_join(rt: HostRuntime) -> Result<(), Fail> {
     let alloc = rt.alloc();
     let (shelf, pass) = Shelf::new(&rt, alloc, 4)?;

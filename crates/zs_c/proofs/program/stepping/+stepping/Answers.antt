@@ -1,6 +1,6 @@
 use Rattle.std.proofs.Common.{◌+◌, refl, take, drop, ap, ◌∙◌}
 use Rattle.zs_step.specs.Answer.{is_next}
-use Rattle.zs_term.specs.declared.limits.TheConstants.{MAX_WEIGHT}
+use Rattle.zs_term.specs.Schedule.{max_weight}
 use Rattle.zs_c.specs.declared.program.node.Sizes.{Sizes}
 use Rattle.zs_c.proofs.NodeSteps.{code-at, code-deep, code-heavy, leaf-node, both-node, either-node, then-node, while_input-node, mapped-node, while_output-node, reset-stays-node, reset-begins-node}
 use Rattle.zs_c.proofs.PartSteps.{parts-fit, then-fit, parts-steps, stops, then-goes, then-done, then-on}
@@ -19,7 +19,7 @@ step_and_then-returns-in-Next t c = record {
       let n = c.args.sizes.state in
       let size = c.args.sizes.code in
       let front = code-at a c.front-first.result.now _ c.args.levels (c.front-first.ensures.value ∙ ap (λ z. take size z) c.words_after-rest.ensures.value) parts.first in
-      then-goes a b h c.args.words.now x.new.words c.args.step.now.moment c.args.step.now.input n x.result c.args.visits.now x.new.visits MAX_WEIGHT
+      then-goes a b h c.args.words.now x.new.words c.args.step.now.moment c.args.step.now.input n x.result c.args.visits.now x.new.visits max_weight
       (ap (λ (z : Sizes). z.state) parts.sizes) held room c.if-words-eq0.true (λ e r. x.ensures.steps a h front r e) (ap is_next c.in-Next.is);
 }
 
@@ -37,11 +37,11 @@ step_and_then-returns t c = record {
             let x = w.step_code-x in
             let front = code-at a w.front-first.result.now _ c.args.levels (w.front-first.ensures.value ∙ ap (λ z. take size z) rest) parts.first in
             then-done a b h c.args.words.now x.new.words w.clear.new.words c.if-words-eq0.words y.new.words c.args.step.now.moment c.args.step.now.input n x.result y.result
-            c.args.visits.now x.new.visits c.if-words-eq0.visits y.new.visits MAX_WEIGHT sized held room w.if-words-eq0.true (λ e r. x.ensures.steps a h front r e)
+            c.args.visits.now x.new.visits c.if-words-eq0.visits y.new.visits max_weight sized held room w.if-words-eq0.true (λ e r. x.ensures.steps a h front r e)
             (stops x.result (λ m e. w.in_default.not-Next m e)) (w.clear.ensures.clears a front) w.words-is w.visits-is (λ g e r. y.ensures.steps b g behind r e)
         | step_and_then-else-words-eq0 w ↦
             then-on a b h c.args.words.now c.if-words-eq0.words y.new.words c.args.step.now.moment c.args.step.now.input n y.result
-            c.args.visits.now c.if-words-eq0.visits y.new.visits MAX_WEIGHT sized held room w.if-words-eq0.false w.words-is w.visits-is (λ g e r. y.ensures.steps b g behind r e)
+            c.args.visits.now c.if-words-eq0.visits y.new.visits max_weight sized held room w.if-words-eq0.false w.words-is w.visits-is (λ g e r. y.ensures.steps b g behind r e)
       ];
 }
 
@@ -49,7 +49,7 @@ pub step_code-returns-then-levels-eq0 : goal.step_code-returns-then-levels-eq0
 step_code-returns-then-levels-eq0 t c = record {
   steps = λ u h coded room held. absurd (elim c.then-levels-eq0.branch [
     | step_code-then-levels-eq0-via-then-levels-eq0 w ↦ code-deep u c.args.code.now c.args.levels coded w.if-levels-eq0.true
-    | step_code-then-levels-eq0-via-else-levels-eq0+then-visits-ge-MAX_WEIGHT w ↦ code-heavy u c.args.visits.now MAX_WEIGHT room w.if-visits-ge-MAX_WEIGHT.true
+    | step_code-then-levels-eq0-via-else-levels-eq0+then-visits-ge-MAX_WEIGHT w ↦ code-heavy u c.args.visits.now max_weight room w.if-visits-ge-MAX_WEIGHT.true
   ]);
 }
 
@@ -57,7 +57,7 @@ pub step_code-returns-then-not-has_passed : goal.step_code-returns-then-not-has_
 step_code-returns-then-not-has_passed t c = record {
   steps = λ u h coded room held. let s = c.step_code-decision-in-ResetWhen in
       reset-stays-node u h c.args.code.now c.words_after-part-in-ResetWhen.result.now c.args.words.now s.new.words c.args.levels c.args.step.now.moment c.args.step.now.input
-      s.result c.args.visits.now s.new.visits MAX_WEIGHT c.read_node.result c.in-ResetWhen.pick c.in-ResetWhen.test c.has_passed-in-ResetWhen.result
+      s.result c.args.visits.now s.new.visits max_weight c.read_node.result c.in-ResetWhen.pick c.in-ResetWhen.test c.has_passed-in-ResetWhen.result
       coded c.read_node.ensures.value c.in-ResetWhen.is c.words_after-part-in-ResetWhen.ensures.value room held s.ensures.steps c.has_passed-in-ResetWhen.ensures.value
       c.if-not-has_passed.true;
 }
@@ -74,7 +74,7 @@ pub step_code-returns-in-Both : goal.step_code-returns-in-Both
 step_code-returns-in-Both t c = record {
   steps = λ u h coded room held. let s = c.step_parts-x in
       both-node u h c.args.code.now c.args.words.now s.new.words c.args.levels c.args.step.now.moment c.args.step.now.input s.result.0 s.result.1 c.later.result
-      c.args.visits.now s.new.visits MAX_WEIGHT c.read_node.result c.in-Both.sizes coded c.read_node.ensures.value c.in-Both.is room held s.ensures.steps
+      c.args.visits.now s.new.visits max_weight c.read_node.result c.in-Both.sizes coded c.read_node.ensures.value c.in-Both.is room held s.ensures.steps
       c.later.ensures.value;
 }
 
@@ -82,7 +82,7 @@ pub step_code-returns-in-Either : goal.step_code-returns-in-Either
 step_code-returns-in-Either t c = record {
   steps = λ u h coded room held. let s = c.step_parts-x-in-Either in
       either-node u h c.args.code.now c.args.words.now s.new.words c.args.levels c.args.step.now.moment c.args.step.now.input s.result.0 s.result.1 c.earlier.result
-      c.args.visits.now s.new.visits MAX_WEIGHT c.read_node.result c.in-Either.sizes coded c.read_node.ensures.value c.in-Either.is room held s.ensures.steps
+      c.args.visits.now s.new.visits max_weight c.read_node.result c.in-Either.sizes coded c.read_node.ensures.value c.in-Either.is room held s.ensures.steps
       c.earlier.ensures.value;
 }
 
@@ -90,14 +90,14 @@ pub step_code-returns-in-AndThen : goal.step_code-returns-in-AndThen
 step_code-returns-in-AndThen t c = record {
   steps = λ u h coded room held. let s = c.step_and_then in
       then-node u h c.args.code.now c.args.words.now s.new.words c.args.levels c.args.step.now.moment c.args.step.now.input s.result
-      c.args.visits.now s.new.visits MAX_WEIGHT c.read_node.result c.in-AndThen.sizes coded c.read_node.ensures.value c.in-AndThen.is room held s.ensures.steps;
+      c.args.visits.now s.new.visits max_weight c.read_node.result c.in-AndThen.sizes coded c.read_node.ensures.value c.in-AndThen.is room held s.ensures.steps;
 }
 
 pub step_code-returns-in-WhileInput : goal.step_code-returns-in-WhileInput
 step_code-returns-in-WhileInput t c = record {
   steps = λ u h coded room held. let s = c.step_code-decision in
       while_input-node u h c.args.code.now c.words_after.result.now c.args.words.now s.new.words c.args.levels c.args.step.now.moment c.args.step.now.input
-      s.result c.only_if.result c.args.visits.now s.new.visits MAX_WEIGHT c.read_node.result c.in-WhileInput.test c.passes.result
+      s.result c.only_if.result c.args.visits.now s.new.visits max_weight c.read_node.result c.in-WhileInput.test c.passes.result
       coded c.read_node.ensures.value c.in-WhileInput.is c.words_after.ensures.value room held s.ensures.steps c.passes.ensures.value
       c.only_if.ensures.value;
 }
@@ -106,7 +106,7 @@ pub step_code-returns-in-WhileOutput : goal.step_code-returns-in-WhileOutput
 step_code-returns-in-WhileOutput t c = record {
   steps = λ u h coded room held. let s = c.step_code-decision-in-WhileOutput in
       while_output-node u h c.args.code.now c.words_after-part.result.now c.args.words.now s.new.words c.args.levels c.args.step.now.moment c.args.step.now.input
-      s.result c.only_if-in-WhileOutput.result c.args.visits.now s.new.visits MAX_WEIGHT c.read_node.result c.in-WhileOutput.pick c.in-WhileOutput.test c.has_passed.result
+      s.result c.only_if-in-WhileOutput.result c.args.visits.now s.new.visits max_weight c.read_node.result c.in-WhileOutput.pick c.in-WhileOutput.test c.has_passed.result
       coded c.read_node.ensures.value c.in-WhileOutput.is c.words_after-part.ensures.value room held s.ensures.steps c.has_passed.ensures.value
       c.only_if-in-WhileOutput.ensures.value;
 }
@@ -115,7 +115,7 @@ pub step_code-returns-in-Map : goal.step_code-returns-in-Map
 step_code-returns-in-Map t c = record {
   steps = λ u h coded room held. let s = c.step_code in
       mapped-node u h c.args.code.now c.words_after-in-Map.result.now c.args.words.now s.new.words c.args.levels c.args.step.now.moment c.args.step.now.input
-      s.result c.args.visits.now s.new.visits MAX_WEIGHT c.read_node.result c.in-Map.field-0
+      s.result c.args.visits.now s.new.visits max_weight c.read_node.result c.in-Map.field-0
       coded c.read_node.ensures.value c.in-Map.is c.words_after-in-Map.ensures.value room held s.ensures.steps;
 }
 
@@ -123,7 +123,7 @@ pub step_code-returns-else-not-has_passed : goal.step_code-returns-else-not-has_
 step_code-returns-else-not-has_passed t c = record {
   steps = λ u h coded room held. let s = c.step_code-decision-in-ResetWhen in let again = c.step_code-in-ResetWhen in
       reset-begins-node u h c.args.code.now c.words_after-part-in-ResetWhen.result.now c.args.words.now s.new.words c.clear.new.words again.new.words
-      c.args.levels c.args.step.now.moment c.args.step.now.input s.result again.result c.args.visits.now s.new.visits again.new.visits MAX_WEIGHT
+      c.args.levels c.args.step.now.moment c.args.step.now.input s.result again.result c.args.visits.now s.new.visits again.new.visits max_weight
       c.read_node.result c.in-ResetWhen.pick c.in-ResetWhen.test c.has_passed-in-ResetWhen.result
       coded c.read_node.ensures.value c.in-ResetWhen.is c.words_after-part-in-ResetWhen.ensures.value room held s.ensures.steps c.has_passed-in-ResetWhen.ensures.value
       c.if-not-has_passed.false c.clear.ensures.clears again.ensures.steps;
@@ -145,7 +145,7 @@ step_parts-returns t c = record {
       let front = code-at a c.front.result.now _ c.args.levels (c.front.ensures.value ∙ ap (λ z. take size z) rest) parts.first in
       let behind = code-at b c.words_after.result.now _ c.args.levels (c.words_after.ensures.value ∙ ap (λ z. drop size z) rest) parts.second in
       parts-steps a b h c.args.words.now x.new.words y.new.words c.args.step.now.moment c.args.step.now.input n x.result y.result
-      c.args.visits.now x.new.visits y.new.visits MAX_WEIGHT (ap (λ (z : Sizes). z.state) parts.sizes) held room
+      c.args.visits.now x.new.visits y.new.visits max_weight (ap (λ (z : Sizes). z.state) parts.sizes) held room
       (λ e r. x.ensures.steps a h front r e)
       (λ e r. y.ensures.steps b h behind r e);
 }

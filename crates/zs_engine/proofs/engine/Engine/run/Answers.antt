@@ -2,7 +2,7 @@ use Rattle.std.proofs.Common.{◌≡◌, ◌∙◌, [], ap, refl, List, length, 
 use Rattle.std.specs.Vec.Iter.{into_iter_items}
 use Rattle.std.proofs.lemmas.List.{length-map, nil_from_length}
 use Rattle.std.proofs.lemmas.Result.{on_ok_weaker}
-use Rattle.zs_engine.specs.Rounds.{KeptJob}
+use Rattle.zs_drive.specs.Values.{JobRecord}
 use Rattle.zs_engine.specs.Engine.{IsSameRun}
 use Rattle.zs_engine.proofs.engine.Engine.run.Goals as goal
 
@@ -12,7 +12,7 @@ loop-job-init g c = record { new = c.requires.new; clock = refl; jobs = rw (c.re
 pub add-requires-clause-few : goal.add-requires-clause-few
 add-requires-clause-few g c =
     let jobs = rw c.in-Some.ensures.steps.0 at c.loop-job.invariant.jobs in
-    omega (arith, simp (length-append, length-map) at (ap (λ (js : List KeptJob). length js) jobs), c.requires.few)
+    omega (arith, simp (length-append, length-map) at (ap (λ (js : List JobRecord). length js) jobs), c.requires.few)
 
 pub loop-job-preserved : goal.loop-job-preserved
 loop-job-preserved g c = record {

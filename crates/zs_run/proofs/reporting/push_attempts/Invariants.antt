@@ -1,8 +1,0 @@
-use Rattle.std.proofs.Common.{◌≡◌, ◌+◌, ◌++◌, map, drop, string_bytes}
-use Rattle.zs_drive.specs.Values.{attempted_of}
-use Rattle.zs_drive.specs.Lines.{attempts_lines}
-use Rattle.zs_run.proofs.reporting.push_attempts.Given as goal
-
-abbrev pub invariant-loop-attempt : goal.invariant-loop-attempt
-invariant-loop-attempt l = (l.number ≡ l.fn.from + l.attempt-index)
-    × (string_bytes l.text ++ attempts_lines l.number (map attempted_of (drop l.attempt-index l.attempts)) ≡ string_bytes l.fn.text ++ attempts_lines l.fn.from (map attempted_of l.attempts))
