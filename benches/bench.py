@@ -6,8 +6,9 @@
     python3 benches/bench.py --growth        how cost grows, as tables and a picture
 
 The programs run in turn. The tables have the medians of wall time, processor time and peak memory: zsched's, the
-baseline's, and their ratio. `perf` counts the instructions, if it can. If it can't, and with --callgrind, valgrind counts
-them on plans of a tenth of the size. On a machine that does other work, trust only processor time and instructions.
+baseline's, and their ratio. `perf` counts the instructions, if it can. If it can't, and with --callgrind, valgrind
+counts them on plans of a tenth of the size. On a machine that does other work, trust only processor time and
+instructions.
 Exit status: 0, 1 if bytes differ or a run failed, 2 if an argument or a program is wrong."""
 import argparse
 import os
@@ -75,17 +76,17 @@ def cells(pair, scale, digits):
 def row(name, medians, counted, size, equal):
     """A plan's row."""
     fields = [f"`{name}`", f"{size / 1e6:.1f}"]
+    fields += cells(counted, 1e-6, 1) if counted else ["", ""]
     fields += cells([run.wall for run in medians], 1000, 0)
     fields += cells([run.processor for run in medians], 1000, 0)
     fields += cells([run.memory for run in medians], 1e-6, 1)
-    fields += cells(counted, 1e-6, 1) if counted else ["", ""]
     return f"| {' | '.join(fields)} | {'yes' if equal else 'NO'} |"
 
 
 def head_of_table():
     """The two lines above the rows."""
-    names = ["Plan", "Output, MB", "Wall, ms", "x", "Processor, ms", "x", "Peak, MB", "x",
-             "Instructions, millions", "x", "Same bytes"]
+    names = ["Plan", "Output, MB", "Instructions, millions", "x", "Wall, ms", "x", "Processor, ms", "x",
+             "Peak, MB", "x", "Same bytes"]
     return f"| {' | '.join(names)} |\n|---|" + "---:|" * (len(names) - 2) + "---|"
 
 

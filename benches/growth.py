@@ -66,7 +66,7 @@ def axes(divisor=1, attempts=ATTEMPTS):
 
 
 def exponent(values):
-    """The exponent of a line to two places: the slope of its logarithms by least squares, over its sizes' upper decade."""
+    """The exponent of a line to two places: the slope of its logarithms by least squares, over the upper decade."""
     last = max(size for size, _ in values)
     logs = [(math.log(size), math.log(value)) for size, value in values if size * 10 >= last]
     middle_x = sum(x for x, _ in logs) / len(logs)

@@ -1,9 +1,9 @@
 """One run of a program: its time, memory and instructions.
 
 wait4 returns the peak memory as `ru_maxrss`, which is at least that of the process that started the program. So a small
-shell starts the program and exits at once, and the program becomes a child of this process. The measured peak is then at
-least 1 MB, not the size of Python. The program waits for a line on a pipe until the shell has exited. The time begins at
-that line."""
+shell starts the program and exits at once, and the program becomes a child of this process. The measured peak is then
+at least 1 MB, not the size of Python. The program waits for a line on a pipe until the shell has exited. The time
+begins at that line."""
 import ctypes
 import os
 import re

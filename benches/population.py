@@ -1,14 +1,14 @@
 #!/usr/bin/env python3
-"""Measures a population of many jobs on this machine. zsched-population runs it as one program, and by ranges, as many at
-a time as there are processors, which it checks and joins, by the recipe of docs/SCALE.md. Both reports must have the same
-bytes. Last it measures the forms of the whole report.
+"""Measures a population of many jobs on this machine. zsched-population runs it as one program, and by ranges, as many
+at a time as there are processors, which it checks and joins, by the recipe of docs/SCALE.md. Both reports must have the
+same bytes. Last it measures the forms of the whole report.
 
     python3 benches/population.py [--jobs 1000000] [--range 100000] [--folder FOLDER]
 
 Prints a Markdown table with a row for each step: wall time, the processor time of all its processes, the peak memory of
 the largest of them, jobs a second of wall time, and the megabytes read a second of wall and of processor time. The jobs
-are those of the plan `jobs_1_1`: 20 attempts each. A million of them take about 3.5 GB of files, which are removed. Exit
-status: 0, 1 if a step failed or a joined report isn't that of all jobs, 2 if an argument or a program is wrong."""
+are those of the plan `jobs_1_1`: 20 attempts each. A million of them take about 3.5 GB of files, which are removed.
+Exit status: 0, 1 if a step failed or a joined report isn't that of all jobs, 2 if an argument or a program is wrong."""
 import argparse
 import filecmp
 import itertools

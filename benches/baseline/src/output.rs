@@ -6,11 +6,12 @@ use std::sync::Arc;
 #[derive(Clone)]
 pub enum Output {
     Number(u64),
-    Pair(Box<(Output, Output)>),
+    Pair(Box<Output>, Box<Output>),
     Left(Box<Output>),
     Right(Box<Output>),
-    /// A list that states and outputs share.
-    Items(Arc<Vec<Output>>),
+    /// A list that states and outputs share. With the three words an output is as large as one of zsched, whose list is a
+    /// vector with its allocator.
+    Items(Arc<Vec<Output>>, #[allow(dead_code)] [u64; 3]),
 }
 
 const FITS: &str = "a schedule without a kind is rejected";
@@ -26,19 +27,17 @@ impl Output {
     pub fn picked(&self, pick: Pick) -> u64 {
         match (pick, self) {
             (Pick::Whole, output) => output.number(),
-            (Pick::First, Output::Pair(parts)) => parts.0.number(),
-            (Pick::Second, Output::Pair(parts)) => parts.1.number(),
-            (Pick::Size, Output::Items(items)) => items.len() as u64,
+            (Pick::First, Output::Pair(part, _)) | (Pick::Second, Output::Pair(_, part)) => part.number(),
+            (Pick::Size, Output::Items(items, _)) => items.len() as u64,
             _ => unreachable!("{FITS}"),
         }
     }
 
     pub fn map(self, function: Function) -> Output {
         match (function, self) {
-            (Function::First, Output::Pair(parts)) => parts.0,
-            (Function::Second, Output::Pair(parts)) => parts.1,
+            (Function::First, Output::Pair(part, _)) | (Function::Second, Output::Pair(_, part)) => *part,
             (Function::Merge, Output::Left(part) | Output::Right(part)) => *part,
-            (Function::Size, Output::Items(items)) => Output::Number(items.len() as u64),
+            (Function::Size, Output::Items(items, _)) => Output::Number(items.len() as u64),
             (Function::As(number), _) => Output::Number(number),
             (Function::Add(number), Output::Number(value)) => Output::Number(value.saturating_add(number)),
             (Function::Multiply(number), Output::Number(value)) => Output::Number(value.saturating_mul(number)),
@@ -56,14 +55,14 @@ impl Output {
             Output::Number(number) => put_number(text, *number),
             Output::Left(part) => around(text, b"Left(", part),
             Output::Right(part) => around(text, b"Right(", part),
-            Output::Pair(parts) => {
+            Output::Pair(first, second) => {
                 text.push(b'(');
-                parts.0.put(text);
+                first.put(text);
                 text.push(b',');
-                parts.1.put(text);
+                second.put(text);
                 text.push(b')');
             }
-            Output::Items(items) => {
+            Output::Items(items, _) => {
                 text.push(b'[');
                 for (place, item) in items.iter().enumerate() {
                     if place > 0 {

@@ -9,19 +9,31 @@ use std::sync::Mutex;
 /// A task that moves between lists by one word.
 type Boxed = Box<Task>;
 
-/// The tasks that wait, by the tick at which they are due, and those that no longer wait.
+/// The tasks that wait, by the tick at which they are due, this tick by their numbers, and those that no longer wait.
 struct Timers {
     clock: Clock,
     waiting: BTreeMap<u64, Vec<Boxed>>,
+    due_at: BTreeMap<u64, u64>,
     resting: Vec<Boxed>,
 }
 
 impl Timers {
     fn set(&mut self, task: Boxed) {
         match task.due.and_then(|due| self.clock.tick(due)) {
-            Some(tick) => self.waiting.entry(tick).or_default().push(task),
+            Some(tick) => {
+                self.due_at.insert(task.number as u64, tick);
+                self.waiting.entry(tick).or_default().push(task);
+            }
             None => self.resting.push(task),
         }
+    }
+
+    fn take(&mut self) -> Option<(u64, Vec<Boxed>)> {
+        let (now, tasks) = self.waiting.pop_first()?;
+        for task in &tasks {
+            self.due_at.remove(&(task.number as u64));
+        }
+        Some((now, tasks))
     }
 }
 
@@ -66,11 +78,11 @@ impl Workers {
 pub fn run(plan: Plan) -> Vec<u8> {
     let Plan { clock, workers, grain, jobs } = plan;
     let workers = Workers { most: workers, grain, polls: AtomicU64::new(0) };
-    let mut timers = Timers { clock, waiting: BTreeMap::new(), resting: vec![] };
+    let mut timers = Timers { clock, waiting: BTreeMap::new(), due_at: BTreeMap::new(), resting: vec![] };
     for (number, job) in jobs.into_iter().enumerate() {
         timers.set(Box::new(Task::new(number, job)));
     }
-    while let Some((now, mut tasks)) = timers.waiting.pop_first() {
+    while let Some((now, mut tasks)) = timers.take() {
         workers.round(&mut tasks, now);
         for task in tasks {
             timers.set(task);

@@ -103,7 +103,7 @@ impl State {
                 }
                 let (output, next) = part.step(now, input);
                 *last = next.is_some().then_some(output);
-                (Output::Items(items.clone()), next)
+                (Output::Items(items.clone(), [0; 3]), next)
             }
             State::Map(part, function) => {
                 let (output, next) = part.step(now, input);
@@ -125,7 +125,7 @@ impl State {
 fn step_both(parts: &mut (State, State), now: u64, input: u64) -> (Output, Option<u64>, Option<u64>) {
     let (left, left_next) = parts.0.step(now, input);
     let (right, right_next) = parts.1.step(now, input);
-    (Output::Pair(Box::new((left, right))), left_next, right_next)
+    (Output::Pair(Box::new(left), Box::new(right)), left_next, right_next)
 }
 
 fn step_and_then(second: &mut bool, parts: &mut (State, State), now: u64, input: u64) -> Answer {
