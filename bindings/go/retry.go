@@ -1,8 +1,11 @@
+//go:build cgo && linux && amd64
+
 package zsched
 
 import (
 	"context"
 	"errors"
+	"fmt"
 	"hash/maphash"
 	"math"
 	"time"
@@ -14,10 +17,11 @@ const longest = uint64(1<<63-1) / uint64(time.Millisecond)
 type Option func(*options)
 
 type options struct {
-	notify     func(err error, attempt int, wait time.Duration)
-	retryAfter func(error) time.Duration
-	jitter     float64
-	budget     *Budget
+	notify                      func(err error, attempt int, wait time.Duration)
+	retryAfter                  func(error) time.Duration
+	retryAfterMost, attemptMost time.Duration
+	jitter                      float64
+	budget                      *Budget
 }
 
 // Notify has a function called before each sleep, with the error, the number of the attempt that
@@ -26,23 +30,27 @@ func Notify(notify func(err error, attempt int, wait time.Duration)) Option {
 	return func(it *options) { it.notify = notify }
 }
 
-// Jitter shortens each sleep by a random part of it, of at most this share, from 0 to 1, so that the
-// attempts of many clients spread.
-func Jitter(share float64) Option {
-	return func(it *options) { it.jitter = share }
-}
+// Jitter shortens each sleep by a random part of it, of at most this share, so that the attempts of many
+// clients spread. A share that isn't from 0 to 1 is an error of the retry.
+func Jitter(share float64) Option { return func(it *options) { it.jitter = share } }
 
 // RetryAfter has each sleep last at least as long as the function returns for an error, such as a
-// server's Retry-After. The bound of all attempts still holds then; those of waits are the schedule's
-// alone.
+// server's Retry-After. The bound of attempts still holds; those of waits are the schedule's alone.
 func RetryAfter(least func(error) time.Duration) Option {
 	return func(it *options) { it.retryAfter = least }
 }
 
-// WithBudget has the retry share a budget with others.
-func WithBudget(budget *Budget) Option {
-	return func(it *options) { it.budget = budget }
+// RetryAfterMost sets the longest sleep of RetryAfter: an hour without it. A longer one lasts as long.
+func RetryAfterMost(most time.Duration) Option {
+	return func(it *options) { it.retryAfterMost = most }
 }
+
+// AttemptMost has the context of each attempt end after this time. An attempt that goes on has no other
+// begin beside it.
+func AttemptMost(most time.Duration) Option { return func(it *options) { it.attemptMost = most } }
+
+// WithBudget has the retry share a budget with others.
+func WithBudget(budget *Budget) Option { return func(it *options) { it.budget = budget } }
 
 type permanent struct{ error }
 
@@ -58,88 +66,105 @@ func Permanent(err error) error {
 	return permanent{err}
 }
 
-// follower is what a retry steps: a Stepper, or a Schedule for one with collectAll.
-type follower interface {
-	After(moment, input uint64) (Answer, error)
+// follower steps a Stepper, or a Schedule with collectAll.
+type follower func(moment, input uint64) (Answer, error)
+
+// Policy is the compiled text of a schedule. Goroutines may share it. Compile makes one.
+type Policy struct{ begin func() follower }
+
+// Compile returns the policy of a text, or a *Fault.
+func Compile(text string) (*Policy, error) {
+	first, err := NewStepper(text)
+	if fault, is := err.(*Fault); is && fault.Number == KeepsList {
+		return &Policy{func() follower { return (&Schedule{text: text}).After }}, nil
+	}
+	if err != nil {
+		return nil, err
+	}
+	return &Policy{func() follower { return (&Stepper{first.program, first.state}).After }}, nil
 }
 
-// begun returns the schedule of a text, before its first step, or a *Fault.
-func begun(text string) (follower, error) {
-	stepper, err := NewStepper(text)
-	var fault *Fault
-	if errors.As(err, &fault) && fault.Number == KeepsList {
-		return New(text)
+// MustCompile returns the policy of a text that is part of the program. It panics if that is no schedule.
+func MustCompile(text string) *Policy {
+	policy, err := Compile(text)
+	if err != nil {
+		panic("zsched: " + err.Error() + ": " + text)
 	}
-	return stepper, err
+	return policy
 }
 
 // Retry calls attempt until there is no error or the schedule is done, and sleeps between two
 // attempts. It returns the last error. The input of an error is what inputOf returns, or 0 without
 // one. After a Permanent error it doesn't retry. If the context ends in an attempt or a sleep, the
-// last error is returned in an *Ended, which is the context's error too. A text that is no schedule is
-// a *Fault.
+// last error is returned in an *Ended, which is the context's error too.
 //
 // Moments are in milliseconds from the start of the first attempt. The schedule is stepped at the
 // moment when an attempt ended, but at least 1 millisecond after the one that it planned for it, so
 // its Bounds hold of each run. Without Jitter no attempt begins before its planned moment; with it an
 // attempt that begins early counts from that moment on, so the bounds hold as without, and sleeps are
 // never longer.
-func Retry(ctx context.Context, text string, inputOf func(error) uint64,
+func Retry(ctx context.Context, policy *Policy, inputOf func(error) uint64,
 	attempt func(context.Context) error, more ...Option) error {
 	if attempt == nil {
-		return errNoAttempt
+		policy = nil
 	}
-	_, err := RetryValue(ctx, text, inputOf, func(ctx context.Context) (struct{}, error) {
+	_, err := RetryValue(ctx, policy, inputOf, func(ctx context.Context) (struct{}, error) {
 		return struct{}{}, attempt(ctx)
 	}, more...)
 	return err
 }
 
-var errNoAttempt = errors.New("zsched: the attempt is nil")
-
 // RetryValue does what Retry does, and returns what the last attempt returned.
-func RetryValue[T any](ctx context.Context, text string, inputOf func(error) uint64,
+func RetryValue[T any](ctx context.Context, policy *Policy, inputOf func(error) uint64,
 	attempt func(context.Context) (T, error), more ...Option) (value T, err error) {
-	if attempt == nil {
-		return value, errNoAttempt
-	}
-	if ctx == nil {
-		ctx = context.Background()
-	}
-	schedule, err := begun(text)
-	if err != nil {
-		return value, err
-	}
-	run := run{schedule: schedule, inputOf: inputOf, start: time.Now()}
+	run := run{policy: policy, inputOf: inputOf, start: time.Now(), options: options{retryAfterMost: time.Hour}}
 	for _, change := range more {
 		if change != nil {
 			change(&run.options)
 		}
 	}
+	if attempt == nil || policy == nil || policy.begin == nil {
+		return value, errors.New("zsched: the policy or the attempt is nil")
+	}
+	if !(run.jitter >= 0 && run.jitter <= 1) {
+		return value, fmt.Errorf("zsched: a jitter of %v is not from 0 to 1", run.jitter)
+	}
+	if ctx == nil {
+		ctx = context.Background()
+	}
 	for {
-		value, err = attempt(ctx)
+		value, err = limited(ctx, run.attemptMost, attempt)
 		if err == nil {
 			if run.budget != nil {
 				run.budget.Add()
 			}
 			return value, nil
 		}
-		again, ended := run.next(ctx, err)
-		if !again {
+		if again, ended := run.next(ctx, err); !again {
 			return value, ended
 		}
 	}
 }
 
+// limited makes an attempt, with a context that ends after the longest time of one, if there is any.
+func limited[T any](ctx context.Context, most time.Duration, attempt func(context.Context) (T, error)) (T, error) {
+	if most > 0 {
+		limit, cancel := context.WithTimeout(ctx, most)
+		defer cancel()
+		ctx = limit
+	}
+	return attempt(ctx)
+}
+
 // run is one call of Retry.
 type run struct {
 	options
-	schedule follower
+	policy   *Policy
 	inputOf  func(error) uint64
+	schedule follower // begins at the first error; most calls have none
 	start    time.Time
 	attempts int
-	// planned is the moment that the schedule planned for the attempt.
-	planned uint64
+	planned  uint64 // the moment that the schedule planned for the attempt
 	// early is how early the attempt began, by jitter: it counts as if it began at that moment.
 	early time.Duration
 }
@@ -157,32 +182,35 @@ func (run *run) next(ctx context.Context, failure error) (bool, error) {
 	if run.budget != nil && !run.budget.Take() {
 		return false, failure
 	}
+	if run.schedule == nil {
+		run.schedule = run.policy.begin()
+	}
 	run.attempts++
-	now := time.Now()
-	passed, input := uint64((now.Sub(run.start) + run.early).Milliseconds()), uint64(0)
-	if passed < run.planned {
-		passed = run.planned
+	// The attempt counts as 1 millisecond at least, even if the clock falls.
+	now, passed, input := time.Now(), millis(run.planned), uint64(0)
+	if real := now.Sub(run.start) + run.early; passed < real {
+		passed = real
+	}
+	moment := uint64(passed.Milliseconds())
+	if moment <= run.planned {
+		moment = run.planned + 1 - run.planned/math.MaxUint64
 	}
 	if run.inputOf != nil {
 		input = run.inputOf(failure)
 	}
-	moment := passed
-	if moment == run.planned && moment < math.MaxUint64 {
-		moment++
-	}
-	result, err := run.schedule.After(moment, input)
+	result, err := run.schedule(moment, input)
 	if err != nil || result.Done {
 		if err == nil {
 			err = failure
 		}
 		return false, err
 	}
-	until := run.until(now, moment, result.Next, failure)
+	wait := run.wait(passed, moment, result.Next, failure)
 	run.planned = result.Next
 	if run.notify != nil {
-		run.notify(failure, run.attempts, until.Sub(now))
+		run.notify(failure, run.attempts, wait)
 	}
-	if !sleep(ctx, until) {
+	if !sleep(ctx, now.Add(wait)) {
 		return false, &Ended{Last: failure, Cause: ctx.Err()}
 	}
 	if run.early = time.Until(run.start.Add(millis(run.planned))); run.early < 0 {
@@ -191,24 +219,25 @@ func (run *run) next(ctx context.Context, failure error) (bool, error) {
 	return true, nil
 }
 
-// until returns when the next attempt begins, which the schedule plans at `next`.
-func (run *run) until(now time.Time, moment, next uint64, failure error) time.Time {
-	until := run.start.Add(millis(next))
-	if run.jitter > 0 {
-		// A share at random, from 0 to 1. Before Go 1.20 math/rand gives all processes the same.
-		random := float64(new(maphash.Hash).Sum64()>>11) / (1 << 53)
-		share := 1 - random*math.Min(run.jitter, 1)
-		until = now.Add(time.Duration(share * float64(millis(next-moment))))
+// wait returns how long to sleep before the next attempt, which the schedule plans at `next`.
+func (run *run) wait(passed time.Duration, moment, next uint64, failure error) time.Duration {
+	wait := millis(next) - passed
+	// A share at random, from 0 to 1. Before Go 1.20 math/rand gives all processes the same.
+	random := float64(new(maphash.Hash).Sum64()>>11) / (1 << 53)
+	if drawn := time.Duration((1 - random*run.jitter) * float64(millis(next-moment))); run.jitter > 0 && drawn < wait {
+		wait = drawn
 	}
+	least := time.Duration(0)
 	if run.retryAfter != nil {
-		if least := now.Add(run.retryAfter(failure)); until.Before(least) {
-			until = least
-		}
+		least = run.retryAfter(failure)
 	}
-	if until.Before(now) {
-		until = now
+	if least > run.retryAfterMost {
+		least = run.retryAfterMost
 	}
-	return until
+	if wait < least {
+		wait = least
+	}
+	return wait
 }
 
 // millis returns a number of milliseconds as a Duration, of at most 292 years.
@@ -238,21 +267,15 @@ func sleep(ctx context.Context, until time.Time) bool {
 
 // Ended is the error of a context that ended in an attempt or in a wait.
 type Ended struct {
-	// Last is the error of the last attempt.
-	Last error
-	// Cause is the error of the context.
-	Cause error
+	Last  error // the error of the last attempt
+	Cause error // the error of the context
 }
 
 // Error returns the text of both errors.
-func (ended *Ended) Error() string {
-	return ended.Last.Error() + " (" + ended.Cause.Error() + ")"
-}
+func (ended *Ended) Error() string { return ended.Last.Error() + " (" + ended.Cause.Error() + ")" }
 
 // Unwrap returns the error of the last attempt.
-func (ended *Ended) Unwrap() error {
-	return ended.Last
-}
+func (ended *Ended) Unwrap() error { return ended.Last }
 
 // As finds an error of the last attempt, or else of the context.
 func (ended *Ended) As(target any) bool {
@@ -260,6 +283,4 @@ func (ended *Ended) As(target any) bool {
 }
 
 // Is returns whether the context's error is target, since it is that error too.
-func (ended *Ended) Is(target error) bool {
-	return errors.Is(ended.Cause, target)
-}
+func (ended *Ended) Is(target error) bool { return errors.Is(ended.Cause, target) }

@@ -1,3 +1,5 @@
+//go:build cgo && linux && amd64
+
 // Package zsched retries by the proved schedules of zsched.
 //
 // A Schedule doesn't sleep, and neither does a Stepper, whose state has a fixed size; Retry and
@@ -17,44 +19,32 @@ import "unsafe"
 // Numbers of a Fault.
 const (
 	// KeepsList means that the schedule has collectAll, so it has no state of fixed size.
-	KeepsList = 6
-	// NoProgram means that the words are no program of this version of the library.
-	NoProgram = 8
-	// OtherState means that the words of a state are those of another schedule.
-	OtherState = 9
+	KeepsList  = 6
+	NoProgram  = 8 // the words are no program of this version of the library
+	OtherState = 9 // the words of a state are those of another schedule
 )
 
-const (
-	done = 1
-	room = 256
-)
+const done, room = 1, 256
 
 // Seen is what a schedule saw at one step.
 type Seen struct {
-	// Moment is in milliseconds from any start.
-	Moment uint64
-	// Input is any number.
-	Input uint64
+	Moment uint64 // in milliseconds from any start
+	Input  uint64 // any number
 }
 
 // Answer is the result of a step.
 type Answer struct {
-	// Done is true if there is no next attempt.
-	Done bool
+	Done bool // true if there is no next attempt
 	// Next is the moment at which the next attempt may begin, in milliseconds, or 0 if Done.
-	Next uint64
-	// Output is the text of the step's output.
-	Output string
-	// Visits is the number of nodes of the schedule that the step visited.
-	Visits uint64
+	Next   uint64
+	Output string // the text of the step's output
+	Visits uint64 // the number of nodes of the schedule that the step visited
 }
 
 // Fault is the error of a call: its number and place, as zsched.h defines them.
 type Fault struct {
-	// Number is the number in zsched.h.
-	Number uint32
-	// At is the place, or 0.
-	At uint64
+	Number uint32 // the number in zsched.h
+	At     uint64 // the place, or 0
 }
 
 // Error returns the library's text.
@@ -65,9 +55,7 @@ func (fault *Fault) Error() string {
 }
 
 // Version returns that of the library as one number: 1000000 * major + 1000 * minor + patch.
-func Version() uint32 {
-	return uint32(C.zs_version())
-}
+func Version() uint32 { return uint32(C.zs_version()) }
 
 // Check returns a *Fault if the text is no schedule.
 func Check(text string) error {
@@ -75,37 +63,25 @@ func Check(text string) error {
 	return errorOf(C.zs_check(bytesOf(data), C.size_t(len(data)), &at), at)
 }
 
-// Attempt is how long each attempt takes, in milliseconds: Least is 1 or more, and a Most of 0 is no
-// limit.
+// Attempt is how long each attempt takes, in milliseconds: 1 or more, and a Most of 0 is no limit.
 type Attempt struct{ Least, Most uint64 }
 
 // Bounds is what a schedule does for every input, if each attempt takes as long as was given and no
 // moment is above 999999999999999. Times are in milliseconds.
 type Bounds struct {
-	// Seen is the number of attempts that were examined.
-	Seen uint64
-	// Least is the first attempt that can be the last one.
-	Least uint64
-	// HasMost is false if there may be any number of attempts.
-	HasMost bool
-	// Most is the number of attempts at most, or 0 without HasMost.
-	Most uint64
-	// Longest is the longest wait after the attempts that were examined.
-	Longest uint64
-	// HasTotal is false if there is no bound for all waits together.
-	HasTotal bool
-	// Total is all waits together at most, or 0 without HasTotal.
-	Total uint64
-	// HasLongestRun is false if there is no bound for the time of a call.
-	HasLongestRun bool
-	// LongestRun is when each attempt ends at most, from the begin of the first, or 0 without
-	// HasLongestRun.
-	LongestRun uint64
+	Seen          uint64 // the number of attempts that were examined
+	Least         uint64 // the first attempt that can be the last one
+	HasMost       bool   // false if there may be any number of attempts
+	Most          uint64 // the number of attempts at most, or 0 without HasMost
+	Longest       uint64 // the longest wait after the attempts that were examined
+	HasTotal      bool   // false if there is no bound for all waits together
+	Total         uint64 // all waits together at most, or 0 without HasTotal
+	HasLongestRun bool   // false if there is no bound for the time of a call
+	LongestRun    uint64 // when each attempt ends at most, from the first one's begin, or 0
 }
 
 // BoundsOf returns the bounds of a text's schedule, of which at most the first `steps` attempts are
-// examined, or a *Fault. Without an Attempt each attempt takes 1 millisecond or more; the last one
-// counts.
+// examined, or a *Fault. Without an Attempt each takes 1 millisecond or more; the last one counts.
 func BoundsOf(text string, steps uint64, attempts ...Attempt) (Bounds, error) {
 	data, found, at, durations := []byte(text), C.struct_zs_bounds{}, C.uint64_t(0), C.zs_durations{least: 1}
 	for _, attempt := range attempts {
@@ -178,9 +154,7 @@ func New(text string) (*Schedule, error) {
 }
 
 // Seen returns a copy of the steps so far, oldest first.
-func (schedule *Schedule) Seen() []Seen {
-	return append([]Seen(nil), schedule.seen...)
-}
+func (schedule *Schedule) Seen() []Seen { return append([]Seen(nil), schedule.seen...) }
 
 // After makes one more step, at a moment in milliseconds and with an input, and returns its result.
 // After an error the schedule is unchanged.
@@ -210,16 +184,14 @@ type Stepper struct {
 func NewStepper(text string) (*Stepper, error) {
 	data, size, stateSize, at := []byte(text), C.uint64_t(0), C.uint64_t(0), C.uint64_t(0)
 	number := C.zs_program_size(bytesOf(data), C.size_t(len(data)), &size, &stateSize, &at)
-	if err := errorOf(number, at); err != nil {
-		return nil, err
-	}
 	program, state := make([]uint64, size), make([]uint64, stateSize)
-	number = C.zs_compile(bytesOf(data), C.size_t(len(data)), wordsOf(program), C.size_t(size), &at)
-	if err := errorOf(number, at); err != nil {
-		return nil, err
+	if number <= done {
+		number = C.zs_compile(bytesOf(data), C.size_t(len(data)), wordsOf(program), C.size_t(size), &at)
 	}
-	number = C.zs_program_begin(wordsOf(program), C.size_t(size), wordsOf(state), C.size_t(stateSize))
-	if err := errorOf(number, 0); err != nil {
+	if number <= done {
+		number = C.zs_program_begin(wordsOf(program), C.size_t(size), wordsOf(state), C.size_t(stateSize))
+	}
+	if err := errorOf(number, at); err != nil {
 		return nil, err
 	}
 	return &Stepper{program, state}, nil
@@ -241,9 +213,7 @@ func Resume(text string, state []uint64) (*Stepper, error) {
 
 // State returns a copy of the words of the state. Their number depends on the text alone. The first
 // identifies the schedule.
-func (stepper *Stepper) State() []uint64 {
-	return append([]uint64(nil), stepper.state...)
-}
+func (stepper *Stepper) State() []uint64 { return append([]uint64(nil), stepper.state...) }
 
 // After makes one more step, at a moment in milliseconds and with an input, and returns its result.
 // After an error the schedule is unchanged.

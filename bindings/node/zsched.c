@@ -1,6 +1,8 @@
 /* The calls of zsched.h for Node, by N-API. Texts and output buffers are Uint8Arrays, words are
  * BigUint64Arrays. zsched.js calls this. */
 #include <node_api.h>
+#include <stdarg.h>
+#include <string.h>
 #include <zsched.h>
 
 #define MOST 6
@@ -10,53 +12,37 @@ typedef struct span {
     size_t length;
 } span;
 
-/* Throws a TypeError; returns what the call then returns. */
-static napi_value thrown(napi_env env, const char *why)
-{
-    napi_throw_type_error(env, NULL, why);
-    return NULL;
-}
-
-/* Reads the `wanted` arguments of a call. Returns 0 if it threw. */
-static int arguments(napi_env env, napi_callback_info info, size_t wanted, napi_value *found)
-{
-    size_t count = MOST;
-    if (napi_get_cb_info(env, info, &count, found, NULL, NULL) == napi_ok && count == wanted)
-        return 1;
-    thrown(env, "zsched: wrong number of arguments");
-    return 0;
-}
-
-/* Reads a typed array of this kind, with at least `least` items. Returns 0 if it threw. */
-static int items(napi_env env, napi_value value, napi_typedarray_type kind, size_t least, span *found)
+/* Reads a typed array: of bytes if `kind` is 'b', else of as many words as this digit says, or more. Returns 0 if it is none. */
+static int items(napi_env env, napi_value value, char kind, span *found)
 {
     napi_typedarray_type type;
     bool is_typed = false;
-    if (napi_is_typedarray(env, value, &is_typed) == napi_ok && is_typed &&
-        napi_get_typedarray_info(env, value, &type, &found->length, &found->data, NULL, NULL) == napi_ok && type == kind &&
-        found->length >= least)
-        return 1;
-    thrown(env, "zsched: not the expected typed array");
-    return 0;
+    return napi_is_typedarray(env, value, &is_typed) == napi_ok && is_typed &&
+           napi_get_typedarray_info(env, value, &type, &found->length, &found->data, NULL, NULL) == napi_ok &&
+           (kind == 'b' ? type == napi_uint8_array
+                        : type == napi_biguint64_array && found->length >= (size_t)(kind - '0'));
 }
 
-static int bytes(napi_env env, napi_value value, span *found)
+/* Reads the arguments of a call, of which each has a letter: 'n' is a number, for a uint64_t; the others are arrays, for a
+ * span. Returns 0 if it threw. */
+static int given(napi_env env, napi_callback_info info, const char *kinds, ...)
 {
-    return items(env, value, napi_uint8_array, 0, found);
-}
-
-static int words(napi_env env, napi_value value, size_t least, span *found)
-{
-    return items(env, value, napi_biguint64_array, least, found);
-}
-
-static int number(napi_env env, napi_value value, uint64_t *found)
-{
-    bool is_whole = false;
-    if (napi_get_value_bigint_uint64(env, value, found, &is_whole) == napi_ok && is_whole)
-        return 1;
-    thrown(env, "zsched: not an unsigned BigInt of 64 bits");
-    return 0;
+    napi_value values[MOST];
+    size_t count = MOST;
+    va_list places;
+    bool is_well = napi_get_cb_info(env, info, &count, values, NULL, NULL) == napi_ok && count == strlen(kinds);
+    va_start(places, kinds);
+    for (size_t i = 0; is_well && i < count; i++) {
+        bool is_whole = true;
+        if (kinds[i] == 'n')
+            is_well = napi_get_value_bigint_uint64(env, values[i], va_arg(places, uint64_t *), &is_whole) == napi_ok && is_whole;
+        else
+            is_well = items(env, values[i], kinds[i], va_arg(places, span *));
+    }
+    va_end(places);
+    if (!is_well)
+        napi_throw_type_error(env, NULL, "zsched: not the expected arguments");
+    return is_well;
 }
 
 static napi_value result(napi_env env, uint32_t number)
@@ -69,20 +55,15 @@ static napi_value result(napi_env env, uint32_t number)
 /* check(text, at) */
 static napi_value check(napi_env env, napi_callback_info info)
 {
-    napi_value given[MOST];
     span text, at;
-    if (!arguments(env, info, 2, given) || !bytes(env, given[0], &text) || !words(env, given[1], 1, &at))
-        return NULL;
-    return result(env, zs_check(text.data, text.length, at.data));
+    return given(env, info, "b1", &text, &at) ? result(env, zs_check(text.data, text.length, at.data)) : NULL;
 }
 
 /* answer(text, seen, reply, out): seen has the moment and the input of each pair in turn */
 static napi_value answer(napi_env env, napi_callback_info info)
 {
-    napi_value given[MOST];
     span text, seen, reply, out;
-    if (!arguments(env, info, 4, given) || !bytes(env, given[0], &text) || !words(env, given[1], 0, &seen) ||
-        !words(env, given[2], 4, &reply) || !bytes(env, given[3], &out))
+    if (!given(env, info, "b04b", &text, &seen, &reply, &out))
         return NULL;
     return result(env, zs_answer(text.data, text.length, seen.data, seen.length / 2, reply.data, out.data, out.length));
 }
@@ -90,11 +71,9 @@ static napi_value answer(napi_env env, napi_callback_info info)
 /* bounds(text, durations, steps, found, at): durations has the three fields of zs_durations, found the nine of struct zs_bounds */
 static napi_value bounds(napi_env env, napi_callback_info info)
 {
-    napi_value given[MOST];
     span text, durations, found, at;
     uint64_t steps;
-    if (!arguments(env, info, 5, given) || !bytes(env, given[0], &text) || !words(env, given[1], 3, &durations) ||
-        !number(env, given[2], &steps) || !words(env, given[3], 9, &found) || !words(env, given[4], 1, &at))
+    if (!given(env, info, "b3n91", &text, &durations, &steps, &found, &at))
         return NULL;
     return result(env, zs_bounds(text.data, text.length, durations.data, steps, found.data, at.data));
 }
@@ -102,10 +81,8 @@ static napi_value bounds(napi_env env, napi_callback_info info)
 /* programSize(text, size, stateSize, at) */
 static napi_value program_size(napi_env env, napi_callback_info info)
 {
-    napi_value given[MOST];
     span text, size, state_size, at;
-    if (!arguments(env, info, 4, given) || !bytes(env, given[0], &text) || !words(env, given[1], 1, &size) ||
-        !words(env, given[2], 1, &state_size) || !words(env, given[3], 1, &at))
+    if (!given(env, info, "b111", &text, &size, &state_size, &at))
         return NULL;
     return result(env, zs_program_size(text.data, text.length, size.data, state_size.data, at.data));
 }
@@ -113,10 +90,8 @@ static napi_value program_size(napi_env env, napi_callback_info info)
 /* compile(text, program, at) */
 static napi_value compile(napi_env env, napi_callback_info info)
 {
-    napi_value given[MOST];
     span text, program, at;
-    if (!arguments(env, info, 3, given) || !bytes(env, given[0], &text) || !words(env, given[1], 0, &program) ||
-        !words(env, given[2], 1, &at))
+    if (!given(env, info, "b01", &text, &program, &at))
         return NULL;
     return result(env, zs_compile(text.data, text.length, program.data, program.length, at.data));
 }
@@ -124,9 +99,8 @@ static napi_value compile(napi_env env, napi_callback_info info)
 /* programBegin(program, state) */
 static napi_value program_begin(napi_env env, napi_callback_info info)
 {
-    napi_value given[MOST];
     span program, state;
-    if (!arguments(env, info, 2, given) || !words(env, given[0], 0, &program) || !words(env, given[1], 0, &state))
+    if (!given(env, info, "00", &program, &state))
         return NULL;
     return result(env, zs_program_begin(program.data, program.length, state.data, state.length));
 }
@@ -134,12 +108,9 @@ static napi_value program_begin(napi_env env, napi_callback_info info)
 /* programStep(program, state, moment, input, reply, out) */
 static napi_value program_step(napi_env env, napi_callback_info info)
 {
-    napi_value given[MOST];
     span program, state, reply, out;
     uint64_t moment, input;
-    if (!arguments(env, info, 6, given) || !words(env, given[0], 0, &program) || !words(env, given[1], 0, &state) ||
-        !number(env, given[2], &moment) || !number(env, given[3], &input) || !words(env, given[4], 4, &reply) ||
-        !bytes(env, given[5], &out))
+    if (!given(env, info, "00nn4b", &program, &state, &moment, &input, &reply, &out))
         return NULL;
     return result(env, zs_program_step(program.data, program.length, state.data, state.length, moment, input, reply.data,
                                        out.data, out.length));
@@ -148,11 +119,9 @@ static napi_value program_step(napi_env env, napi_callback_info info)
 /* faultText(number, at, out): returns the number of bytes of the text */
 static napi_value fault_text(napi_env env, napi_callback_info info)
 {
-    napi_value given[MOST];
     span out;
     uint64_t fault, at;
-    if (!arguments(env, info, 3, given) || !number(env, given[0], &fault) || !number(env, given[1], &at) ||
-        !bytes(env, given[2], &out))
+    if (!given(env, info, "nnb", &fault, &at, &out))
         return NULL;
     return result(env, (uint32_t)zs_fault_text((uint32_t)fault, at, out.data, out.length));
 }

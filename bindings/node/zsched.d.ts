@@ -45,11 +45,11 @@ export class Schedule {
  */
 export class Stepper {
   /**
-   * Makes the schedule of a text, before its first step, or with a state that `state` returned.
-   * Throws a Fault for the words of another schedule's state. Words that were changed after the
-   * first aren't detected.
+   * Makes the schedule of a text, before its first step, or with a state that `state` returned; of a
+   * Stepper a copy, which shares its program. Throws a Fault for the words of another schedule's
+   * state. Words that were changed after the first aren't detected.
    */
-  constructor(text: string | Uint8Array, state?: ArrayLike<bigint> | null);
+  constructor(text: string | Uint8Array | Stepper, state?: ArrayLike<bigint> | null);
   /**
    * The words of the state. Their number depends on the text alone; the first identifies the
    * schedule.
@@ -60,6 +60,14 @@ export class Stepper {
    * After a Fault the schedule is unchanged.
    */
   after(moment: bigint | number, input?: bigint | number): Answer;
+}
+
+/** The compiled text of a schedule, which any number of retries may share. */
+export class Policy {
+  /** Compiles a text. Throws a Fault if it is no schedule. */
+  constructor(text: string | Uint8Array);
+  /** Returns the schedule, before its first step. */
+  readonly begin: () => Stepper | Schedule;
 }
 
 /** Throws a Fault if the text, a string or its bytes, is no schedule. */
@@ -149,6 +157,13 @@ export interface RetryOptions {
   jitter?: number;
   /** Returns the least milliseconds to wait after an error, such as a server's Retry-After. */
   retryAfter?: (error: any) => number | null | undefined;
+  /** The longest of these waits, 3600000 without it: a longer one lasts as long. */
+  retryAfterMost?: number;
+  /**
+   * The milliseconds after which the signal of an attempt is aborted, with a TimeoutError as its
+   * reason. The attempt has to heed it: no other begins before it ends.
+   */
+  attemptMost?: number;
   /** The budget that this retry shares with others. */
   budget?: Budget;
 }
@@ -165,7 +180,7 @@ export interface RetryOptions {
  * bounds hold as without, and waits are never longer. With `retryAfter` the bounds of waits are those of the schedule alone.
  */
 export function retry<T>(
-  text: string,
+  policy: Policy,
   attempt: (number: number, signal: AbortSignal | undefined) => T | Promise<T>,
   options?: RetryOptions,
 ): Promise<T>;

@@ -13,6 +13,7 @@ const KEEPS_LIST = 6;
 const OTHER_STATE = 9;
 const ROOM = 256;
 const LONGEST = 2 ** 31 - 1;
+const HOUR = 3600000;
 
 /** Returns the addon. If it can't be loaded, the error says for which machines it is built. */
 function load(place) {
@@ -63,7 +64,7 @@ class Budget {
   #tokens;
 
   constructor(tokens = 10, ratio = 0.1) {
-    if (!(Number.isFinite(tokens) && tokens > 0 && Number.isFinite(ratio) && ratio >= 0)) {
+    if (!(Number.isFinite(tokens) && tokens >= 0 && Number.isFinite(ratio) && ratio >= 0)) {
       throw new RangeError(`zsched: a budget of ${tokens} tokens and the ratio ${ratio}`);
     }
     this.#most = tokens;
@@ -145,10 +146,6 @@ class Schedule {
   #text;
   #seen;
 
-  /**
-   * Makes the schedule of a text, which has seen these steps, as `seen` returns them. Throws a
-   * Fault if the text is no schedule, and a RangeError if a step lacks its input.
-   */
   constructor(text, seen = []) {
     check(text);
     this.#text = Buffer.from(text);
@@ -158,19 +155,14 @@ class Schedule {
     }
   }
 
-  /** The moment and the input of each step so far, in turn, oldest first. */
   get seen() {
     return this.#seen.slice();
   }
 
-  /**
-   * Makes one more step, at a moment in milliseconds and with an input, and returns its result.
-   * After a Fault the schedule is unchanged.
-   */
   after(moment, input = 0n) {
     const seen = new BigUint64Array(this.#seen.length + 2);
     seen.set(this.#seen);
-    seen.set(pair(moment, input), this.#seen.length);
+    seen.set([unsigned(moment), unsigned(input)], this.#seen.length);
     const result = resultOf((reply, out) => calls.answer(this.#text, seen, reply, out));
     this.#seen = seen;
     return result;
@@ -185,12 +177,11 @@ class Stepper {
   #program;
   #state;
 
-  /**
-   * Makes the schedule of a text, before its first step, or with a state that `state` returned.
-   * Throws a Fault for the words of another schedule's state. Words that were changed after the
-   * first aren't detected.
-   */
   constructor(text, state = null) {
+    if (text instanceof Stepper) {
+      [this.#program, this.#state] = [text.#program, text.#state];
+      return;
+    }
     const data = Buffer.from(text);
     const [size, stateSize, at] = [new BigUint64Array(1), new BigUint64Array(1), new BigUint64Array(1)];
     throwFault(calls.programSize(data, size, stateSize, at), at[0]);
@@ -206,20 +197,12 @@ class Stepper {
     }
   }
 
-  /**
-   * The words of the state. Their number depends on the text alone; the first identifies the
-   * schedule.
-   */
   get state() {
     return this.#state.slice();
   }
 
-  /**
-   * Makes one more step, at a moment in milliseconds and with an input, and returns its result.
-   * After a Fault the schedule is unchanged.
-   */
   after(moment, input = 0n) {
-    const [now, code] = pair(moment, input);
+    const [now, code] = [unsigned(moment), unsigned(input)];
     let state;
     const result = resultOf((reply, out) => {
       state = this.#state.slice();
@@ -238,18 +221,27 @@ function unsigned(number) {
   return whole;
 }
 
-function pair(moment, input) {
-  return [unsigned(moment), unsigned(input)];
+/** The compiled text of a schedule, which any number of retries may share. */
+class Policy {
+  /** Compiles a text. Throws a Fault if it is no schedule. */
+  constructor(text) {
+    try {
+      const first = new Stepper(text);
+      this.begin = () => new Stepper(first);
+    } catch (fault) {
+      if (fault.number !== KEEPS_LIST) {
+        throw fault;
+      }
+      this.begin = () => new Schedule(text);
+    }
+    Object.freeze(this);
+  }
 }
 
-function begun(text) {
-  try {
-    return new Stepper(text);
-  } catch (fault) {
-    if (fault.number !== KEEPS_LIST) {
-      throw fault;
-    }
-    return new Schedule(text);
+/** Throws a RangeError if a number isn't from 0 to another. */
+function checkRange(name, number, most) {
+  if (!(number >= 0 && number <= most)) {
+    throw new RangeError(`zsched: the ${name} ${number} is not from 0 to ${most}`);
   }
 }
 
@@ -300,7 +292,7 @@ function planAfter(error, hooks) {
 }
 
 /** When the next attempt begins, in nanoseconds of the clock. The schedule was stepped at `moment` and plans it at `next`. */
-function begin(start, now, moment, next, error, { jitter = 0, retryAfter }) {
+function begin(start, now, moment, next, error, { jitter = 0, retryAfter, retryAfterMost = HOUR }) {
   let until = start + next * 1000000n;
   if (jitter > 0) {
     const early = now + BigInt(Math.round(Number(next - moment) * 1e6 * (1 - jitter * Math.random())));
@@ -310,17 +302,32 @@ function begin(start, now, moment, next, error, { jitter = 0, retryAfter }) {
   if (typeof millis !== 'number' || !Number.isFinite(millis)) {
     throw new TypeError(`zsched: retryAfter returned ${String(millis)}, which is no number of milliseconds`);
   }
-  const least = now + BigInt(Math.ceil(millis * 1e6));
+  const least = now + BigInt(Math.ceil(Math.min(millis, retryAfterMost) * 1e6));
   return until > least ? until : least;
 }
 
+/** Returns a signal that is aborted with another, or after some milliseconds, and what has to be called at the end. */
+function limited(signal, most) {
+  const control = new AbortController();
+  const follow = () => control.abort(signal.reason);
+  const timer = setTimeout(() => control.abort(new DOMException(`no end after ${most} ms`, 'TimeoutError')), most);
+  signal?.addEventListener('abort', follow, { once: true });
+  return [control.signal, () => {
+    clearTimeout(timer);
+    signal?.removeEventListener('abort', follow);
+  }];
+}
+
 /** Returns the value or the error of an attempt. Throws a TypeError for a generator, which hasn't run yet. */
-async function outcome(attempt, number, signal) {
+async function outcome(attempt, number, given, most) {
+  const [signal, end] = most === undefined ? [given] : limited(given, most);
   let value;
   try {
     value = await attempt(number, signal);
   } catch (error) {
     return { error };
+  } finally {
+    end?.();
   }
   if (isGeneratorObject(value)) {
     throw new TypeError(`zsched: ${attempt.name || 'the attempt'} returns a generator, whose body runs after the call: `
@@ -329,15 +336,15 @@ async function outcome(attempt, number, signal) {
   return { value };
 }
 
-async function retry(text, attempt, options = {}) {
-  const { inputOf = () => 0, shouldRetry = () => true, onFailedAttempt = () => {}, signal, budget, jitter = 0 } = options;
-  if (typeof attempt !== 'function') {
-    throw new TypeError('zsched: the attempt is no function');
+async function retry(policy, attempt, options = {}) {
+  const { inputOf = () => 0, shouldRetry = () => true, onFailedAttempt = () => {}, signal, budget, attemptMost } = options;
+  if (typeof attempt !== 'function' || !(policy instanceof Policy)) {
+    throw new TypeError('zsched: the attempt is no function, or the policy is no Policy');
   }
-  if (!(jitter >= 0 && jitter <= 1)) {
-    throw new RangeError(`zsched: a jitter of ${jitter} is not from 0 to 1`);
-  }
-  const schedule = begun(text);
+  checkRange('jitter', options.jitter ?? 0, 1);
+  checkRange('retryAfterMost', options.retryAfterMost ?? 0, Number.MAX_SAFE_INTEGER);
+  checkRange('attemptMost', attemptMost ?? 0, LONGEST);
+  let schedule;
   const start = process.hrtime.bigint();
   let planned = 0n;
   // How early the attempt began, in nanoseconds: it counts as if it began at its planned moment.
@@ -345,7 +352,7 @@ async function retry(text, attempt, options = {}) {
   let error;
   for (let number = 1; ; number += 1) {
     throwIfAborted(signal, error);
-    const ended = await outcome(attempt, number, signal);
+    const ended = await outcome(attempt, number, signal, attemptMost);
     if ('value' in ended) {
       budget?.add();
       return ended.value;
@@ -364,6 +371,7 @@ async function retry(text, attempt, options = {}) {
       if (typeof input !== 'number' && typeof input !== 'bigint') {
         throw new TypeError(`zsched: inputOf returned ${typeof input}, which is no whole number`);
       }
+      schedule ??= policy.begin();
       const result = schedule.after(moment, input);
       planned = result.next;
       return result.done ? null : begin(start, now, moment, planned, error, options);
@@ -384,4 +392,4 @@ function version() {
   return calls.version();
 }
 
-module.exports = { Aborted, Bounds, Budget, Fault, Schedule, Stepper, bounds, check, retry, version };
+module.exports = { Aborted, Bounds, Budget, Fault, Policy, Schedule, Stepper, bounds, check, retry, version };

@@ -15,12 +15,12 @@ fn main() {
     };
     let library = folder.join(NAME);
     println!("cargo:rerun-if-changed={}", library.display());
-    if !library.exists() {
-        println!("cargo:warning=there is no {}: build it by build/make-library, or name its folder in ZSCHED_LIBRARY_DIR", library.display());
-    }
     let target = env::var("TARGET").unwrap_or_default();
-    if !target.starts_with("x86_64-") || !target.contains("-linux-") {
-        println!("cargo:warning={NAME} is for Linux on x86-64, and not for {target}");
+    let fits = target.starts_with("x86_64-") && target.contains("-linux-");
+    if !fits || !library.exists() {
+        let why = if fits { format!("there is no {}", library.display()) } else { format!("it is not for {target}") };
+        eprintln!("zsched: {NAME} is for Linux on x86-64, and {why}: build it by build/make-library, or name its folder in ZSCHED_LIBRARY_DIR");
+        std::process::exit(1);
     }
     println!("cargo:rustc-link-search=native={}", folder.display());
     println!("cargo:rustc-link-lib=static=zsched");

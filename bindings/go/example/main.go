@@ -14,10 +14,9 @@ import (
 	zsched "github.com/zsched/zsched/bindings/go"
 )
 
-const (
-	policy = "((exponential(20) || spaced(100)) && recurs(5))"
-	busy   = 3
-)
+const busy = 3
+
+var policy = zsched.MustCompile("((exponential(20) || spaced(100)) && recurs(5))")
 
 var errBusy = errors.New("503")
 

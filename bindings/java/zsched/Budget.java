@@ -11,26 +11,24 @@ public final class Budget {
     private final double ratio;
     private double tokens;
 
-    /** Makes a budget with all its tokens. gRPC's documents have 10 tokens and the ratio 0.1. */
+    /** Makes a budget. gRPC has 10 tokens and the ratio 0.1. Throws unless both are finite and at least 0. */
     public Budget(double tokens, double ratio) {
+        if (!(tokens >= 0 && Double.isFinite(tokens) && ratio >= 0 && Double.isFinite(ratio))) {
+            throw new IllegalArgumentException("zsched: a budget of " + tokens + " tokens and the ratio " + ratio);
+        }
         this.most = tokens;
         this.ratio = ratio;
         this.tokens = tokens;
     }
 
     /** Returns the tokens that are there. */
-    public synchronized double tokens() {
-        return tokens;
-    }
+    public double tokens() { return change(0); }
 
     /** Adds the ratio after an attempt that didn't fail. */
-    public synchronized void add() {
-        tokens = Math.min(most, tokens + ratio);
-    }
+    public void add() { change(ratio); }
 
     /** Takes a token after a failed attempt. Returns whether a retry may follow. */
-    public synchronized boolean take() {
-        tokens = Math.max(0, tokens - 1);
-        return tokens > most / 2;
-    }
+    public boolean take() { return change(-1) > most / 2; }
+
+    private synchronized double change(double by) { return tokens = Math.max(0, Math.min(most, tokens + by)); }
 }

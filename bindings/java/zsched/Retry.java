@@ -3,6 +3,7 @@ package zsched;
 import java.time.Duration;
 import java.util.Objects;
 import java.util.concurrent.Callable;
+import java.util.concurrent.CancellationException;
 import java.util.concurrent.CompletableFuture;
 import java.util.concurrent.CompletionException;
 import java.util.concurrent.CompletionStage;
@@ -10,6 +11,7 @@ import java.util.concurrent.Future;
 import java.util.concurrent.ScheduledExecutorService;
 import java.util.concurrent.ThreadLocalRandom;
 import java.util.concurrent.TimeUnit;
+import java.util.concurrent.TimeoutException;
 import java.util.function.Consumer;
 import java.util.function.Function;
 import java.util.function.LongConsumer;
@@ -20,7 +22,7 @@ import java.util.function.ToLongFunction;
 
 /**
  * A retry by a proved schedule: {@link #call} sleeps on the calling thread, {@link #callAsync} waits
- * in a scheduler. Its methods that change it return it; once made, threads may share it.
+ * in a scheduler. Its text is compiled once. Its options return a changed copy, so threads may share it.
  *
  * <p>Moments are in milliseconds from the start of the first attempt. The schedule is stepped at the
  * moment when an attempt ended, but at least 1 millisecond after the one that it planned for it, so
@@ -32,11 +34,8 @@ import java.util.function.ToLongFunction;
  * <p>What a function or listener of {@link #inputOf}, {@link #on}, {@link #onFailure} or
  * {@link #retryAfter} throws ends the retry: the attempt's error is thrown, which suppresses it.
  */
-public final class Retry {
-    /**
-     * A failed attempt: its error, its number, from 1, and the wait until the next one, or null if
-     * there is none.
-     */
+public final class Retry implements Cloneable {
+    /** A failed attempt: its error, its number from 1, and the wait until the next, or null without one. */
     public record Failure(Exception error, long number, Duration delay) { }
 
     /** The error of an attempt whose result is retried ({@link #retryOnResult}). It has no stack trace. */
@@ -50,93 +49,86 @@ public final class Retry {
         }
 
         /** Returns the result. */
-        public Object result() {
-            return result;
-        }
+        public Object result() { return result; }
     }
 
     /** Sleeps for a time, or for less. */
-    @FunctionalInterface
     public interface Sleeper {
         void sleep(Duration time) throws InterruptedException;
     }
 
     private static final long LONGEST = Long.MAX_VALUE / 1_000_000;
 
-    private final String text;
+    private final Supplier<Schedule.Follower> begins;
     private ToLongFunction<Exception> inputOf = error -> 0;
     private Predicate<Exception> isWanted = error -> true;
     private Predicate<Object> isBad = result -> false;
     private Consumer<Failure> onFailure = failure -> { };
     private LongConsumer onSuccess = attempts -> { };
     private Function<Exception, Duration> retryAfter = error -> null;
+    private Duration retryAfterMost = Duration.ofHours(1);
+    private Duration attemptMost;
     private LongSupplier clock = System::nanoTime;
     private Sleeper sleeper = Retry::sleep;
     private double jitter;
     private Budget budget;
 
-    private Retry(String text) {
-        this.text = text;
-    }
+    private Retry(Supplier<Schedule.Follower> begins) { this.begins = begins; }
 
     /** Returns the retry of a schedule's text. Throws {@link Schedule.Fault}. */
-    public static Retry of(String text) {
-        return new Retry(new Schedule(text).text());
+    public static Retry of(String text) { return new Retry(Schedule.begins(text)); }
+
+    private Retry with(Consumer<Retry> change) {
+        try {
+            Retry changed = (Retry) clone();
+            change.accept(changed);
+            return changed;
+        } catch (CloneNotSupportedException never) {
+            throw new AssertionError(never);
+        }
     }
 
     /** Sets what the schedule's input of an error is: 0 without it. */
     public Retry inputOf(ToLongFunction<Exception> inputOf) {
-        this.inputOf = inputOf;
-        return this;
+        return with(it -> it.inputOf = inputOf);
     }
 
     /**
      * Sets which errors are retried, such as {@code IOException.class::isInstance}: every Exception
      * without it. Any other error is thrown, and so is an InterruptedException.
      */
-    public Retry on(Predicate<Exception> isWanted) {
-        this.isWanted = isWanted;
-        return this;
-    }
+    public Retry on(Predicate<Exception> isWanted) { return with(it -> it.isWanted = isWanted); }
 
     /**
      * Sets which results are retried: none without it. Functions and listeners get a
      * {@link BadResult} in place of an error. When the schedule is done, the last result is returned.
      */
-    public Retry retryOnResult(Predicate<Object> isBad) {
-        this.isBad = isBad;
-        return this;
-    }
+    public Retry retryOnResult(Predicate<Object> isBad) { return with(it -> it.isBad = isBad); }
 
     /** Adds a listener, which is called after each failed attempt, before the wait. */
     public Retry onFailure(Consumer<Failure> listener) {
-        this.onFailure = onFailure.andThen(listener);
-        return this;
+        return with(it -> it.onFailure = onFailure.andThen(listener));
     }
 
-    /**
-     * Adds a listener, which is called with the number of attempts when one doesn't fail. What it
-     * throws is thrown in place of the result.
-     */
+    /** Adds a listener, which gets the number of attempts when one doesn't fail. What it throws is thrown. */
     public Retry onSuccess(LongConsumer listener) {
-        this.onSuccess = onSuccess.andThen(listener);
-        return this;
+        return with(it -> it.onSuccess = onSuccess.andThen(listener));
     }
 
-    /**
-     * Sets the clock, in nanoseconds, and what {@link #call} sleeps with, for tests. The scheduler of
-     * {@link #callAsync} sleeps itself.
-     */
+    /** Sets the clock, in nanoseconds, and what {@link #call} sleeps with, for tests; a scheduler sleeps itself. */
     public Retry clock(LongSupplier nanos, Sleeper sleeper) {
-        this.clock = nanos;
-        this.sleeper = sleeper;
-        return this;
+        return with(it -> {
+            it.clock = nanos;
+            it.sleeper = sleeper;
+        });
     }
 
-    /** Shortens each wait by a random part of it, of at most this share, from 0 to 1. */
+    /** Shortens each wait by a random part of it, of at most this share: from 0 to 1, else it throws. */
     public Retry jitter(double share) {
-        this.jitter = Math.min(share, 1);
-        return this;
+        if (!(share >= 0 && share <= 1)) {
+            throw new IllegalArgumentException("zsched: a jitter of " + share + " is not from 0 to 1");
+        }
+        return with(it -> it.jitter = share);
     }
 
     /**
@@ -144,15 +136,20 @@ public final class Retry {
      * limit. The bound of all attempts still holds then; those of waits are the schedule's alone.
      */
     public Retry retryAfter(Function<Exception, Duration> least) {
-        this.retryAfter = least;
-        return this;
+        return with(it -> it.retryAfter = least);
     }
 
+    /** Sets the longest wait of {@link #retryAfter}: an hour without it. A longer one lasts as long. */
+    public Retry retryAfterMost(Duration most) { return with(it -> it.retryAfterMost = most); }
+
+    /**
+     * Sets how long an attempt may take: {@link #call} interrupts a longer one, and {@link #callAsync}
+     * cancels its future. The error is then a TimeoutException, if the attempt ends by that.
+     */
+    public Retry attemptMost(Duration most) { return with(it -> it.attemptMost = most); }
+
     /** Sets the budget that this retry shares with others: no limit without it. */
-    public Retry budget(Budget budget) {
-        this.budget = budget;
-        return this;
-    }
+    public Retry budget(Budget budget) { return with(it -> it.budget = budget); }
 
     /**
      * Calls an attempt until there is a value or the schedule is done, and sleeps between two. At the
@@ -167,7 +164,7 @@ public final class Retry {
             T value = null;
             Exception error = null;
             try {
-                value = attempt.call();
+                value = attemptMost == null ? attempt.call() : limited(attempt);
             } catch (Exception thrown) {
                 error = thrown;
             }
@@ -186,17 +183,39 @@ public final class Retry {
      * Starts an attempt until one completes with a value or the schedule is done, and completes the
      * future with the value or the last error. A {@link CompletionException} counts as its cause. It
      * blocks no thread. If the future is cancelled, or completed otherwise, the attempt or the wait is
-     * cancelled, and none follows. If the supplier returns null, the future completes with a
-     * NullPointerException.
+     * cancelled, and none follows. A supplier that returns null is a NullPointerException.
      */
     public <T> CompletableFuture<T> callAsync(Supplier<? extends CompletionStage<T>> attempt, ScheduledExecutorService scheduler) {
         Objects.requireNonNull(attempt, "attempt");
         CompletableFuture<T> ended = new CompletableFuture<>();
         Run run = new Run();
         start(run, attempt, scheduler, ended);
-        ended.whenComplete((value, error) -> run.stop());
+        ended.whenComplete((value, error) -> run.pending.cancel(true));
         return ended;
     }
+
+    /** Makes an attempt, and interrupts it when its time is over. */
+    private <T> T limited(Callable<T> attempt) throws Exception {
+        CompletableFuture<Void> limit = new CompletableFuture<Void>().orTimeout(attemptMost.toNanos(), TimeUnit.NANOSECONDS);
+        Thread caller = Thread.currentThread();
+        CompletableFuture<Void> interrupting = limit.exceptionally(over -> {
+            caller.interrupt();
+            return null;
+        });
+        try {
+            return attempt.call();
+        } catch (InterruptedException interrupted) {
+            throw limit.isDone() ? late() : interrupted;
+        } finally {
+            if (!limit.complete(null)) {
+                // The interrupt came, or comes, so that none remains.
+                interrupting.join();
+                Thread.interrupted();
+            }
+        }
+    }
+
+    private TimeoutException late() { return new TimeoutException("zsched: the attempt took longer than " + attemptMost); }
 
     private <T> void start(Run run, Supplier<? extends CompletionStage<T>> attempt, ScheduledExecutorService scheduler,
             CompletableFuture<T> ended) {
@@ -207,6 +226,7 @@ public final class Retry {
         CompletionStage<T> started;
         try {
             started = attempt.get();
+            run.limit(started, scheduler);
         } catch (Throwable thrown) {
             started = CompletableFuture.failedFuture(thrown);
         }
@@ -218,10 +238,10 @@ public final class Retry {
             run.follow(future, ended);
         }
         started.whenComplete((value, thrown) -> {
+            Throwable error = run.end(thrown);
             if (ended.isDone()) {
                 return;
             }
-            Throwable error = thrown instanceof CompletionException && thrown.getCause() != null ? thrown.getCause() : thrown;
             try {
                 if (error != null && !(error instanceof Exception)) {
                     throw error;
@@ -243,18 +263,40 @@ public final class Retry {
 
     /** One call: its schedule, its start, the last error, the number of attempts, and the planned moment of the last one. */
     private final class Run {
-        private final Schedule.Follower schedule = Schedule.begun(text);
         private final long start = clock.getAsLong();
+        private Schedule.Follower schedule; // begins at the first error; most calls have none
         private Exception error;
         private long now;
         private long number;
         private long planned;
         private long early;
-        private volatile Future<?> pending;
+        private volatile Future<?> pending = CompletableFuture.completedFuture(null);
+        private volatile Future<?> limit = pending;
+        private volatile boolean isLate;
+
+        /** Returns the nanoseconds since the start, 0 while the clock is below it. */
+        private long elapsed() { return Math.max(0, clock.getAsLong() - start); }
 
         /** Notes how early an attempt begins: it counts as if it began at its planned moment. */
-        void begin() {
-            early = Math.max(0, nanos(planned) - (clock.getAsLong() - start));
+        void begin() { early = planned == 0 ? 0 : Math.max(0, nanos(planned) - elapsed()); }
+
+        /** Cancels an attempt when its time is over, unless it ends before. */
+        void limit(CompletionStage<?> attempt, ScheduledExecutorService scheduler) {
+            if (attemptMost != null && attempt != null) {
+                Future<?> future = attempt.toCompletableFuture();
+                isLate = false;
+                limit = scheduler.schedule(() -> {
+                    isLate = true;
+                    future.cancel(true);
+                }, attemptMost.toNanos(), TimeUnit.NANOSECONDS);
+            }
+        }
+
+        /** Ends the limit of an attempt. Returns the attempt's error, if it has one. */
+        Throwable end(Throwable thrown) {
+            limit.cancel(false);
+            Throwable error = thrown instanceof CompletionException && thrown.getCause() != null ? thrown.getCause() : thrown;
+            return isLate && error instanceof CancellationException ? late() : error;
         }
 
         /** Notes what ends if the retry's future is cancelled: an attempt, or a wait. */
@@ -265,18 +307,7 @@ public final class Retry {
             }
         }
 
-        /** Cancels it. */
-        void stop() {
-            Future<?> last = pending;
-            if (last != null) {
-                last.cancel(true);
-            }
-        }
-
-        /**
-         * Ends an attempt that returned a value, or threw. Returns the nanoseconds from now to the
-         * next attempt, or -1 if the value is returned, or throws the error.
-         */
+        /** Ends an attempt. Returns the nanoseconds to the next one, or -1 if its value is returned, or throws its error. */
         long delayAfter(Object value, Exception thrown) throws Exception {
             number++;
             if (thrown == null && !isBad.test(value)) {
@@ -304,31 +335,35 @@ public final class Retry {
 
         /** Steps the schedule. Returns the nanoseconds from now to the next attempt, or -1 if there is none. */
         private long plan() {
-            now = clock.getAsLong();
-            long elapsed = (now - start + Math.min(early, Long.MAX_VALUE - (now - start))) / 1_000_000;
+            now = elapsed();
+            long elapsed = (now + Math.min(early, Long.MAX_VALUE - now)) / 1_000_000;
             long first = planned == -1 ? planned : planned + 1;
             long moment = Long.compareUnsigned(elapsed, first) > 0 ? elapsed : first;
             boolean isRetried = error instanceof BadResult || !(error instanceof InterruptedException) && isWanted.test(error);
             if (!isRetried || budget != null && !budget.take()) {
                 return -1;
             }
+            if (schedule == null) {
+                schedule = begins.get();
+            }
             Schedule.Answer result = schedule.after(moment, inputOf.applyAsLong(error));
             if (result.done()) {
                 return -1;
             }
-            long nanos = nanos(result.next()) - (now - start);
+            long nanos = nanos(result.next()) - Math.max(now, nanos(planned));
             if (jitter > 0) {
                 nanos = Math.min(nanos, (long) (nanos(result.next() - moment) * (1 - jitter * ThreadLocalRandom.current().nextDouble())));
             }
             Duration least = retryAfter.apply(error);
+            long most = TimeUnit.NANOSECONDS.convert(retryAfterMost);
             planned = result.next();
-            return Math.max(Math.max(nanos, 0), least == null ? 0 : TimeUnit.NANOSECONDS.convert(least));
+            return Math.max(Math.max(nanos, 0), least == null ? 0 : Math.min(TimeUnit.NANOSECONDS.convert(least), most));
         }
 
         /** Sleeps these nanoseconds from the last step. */
         void sleep(long nanos) throws InterruptedException {
             try {
-                sleeper.sleep(Duration.ofNanos(Math.max(0, nanos - (clock.getAsLong() - now))));
+                sleeper.sleep(Duration.ofNanos(Math.max(0, nanos - Math.max(0, elapsed() - now))));
             } catch (InterruptedException interrupted) {
                 interrupted.addSuppressed(error);
                 throw interrupted;
@@ -346,7 +381,5 @@ public final class Retry {
     }
 
     /** Returns milliseconds, which are unsigned, as nanoseconds: 292 years at most. */
-    private static long nanos(long millis) {
-        return Long.compareUnsigned(millis, LONGEST) > 0 ? Long.MAX_VALUE : millis * 1_000_000;
-    }
+    private static long nanos(long millis) { return Long.compareUnsigned(millis, LONGEST) > 0 ? Long.MAX_VALUE : millis * 1_000_000; }
 }

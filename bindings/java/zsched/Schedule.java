@@ -1,11 +1,12 @@
 package zsched;
 
-import com.sun.jna.Library;
 import com.sun.jna.Native;
 import java.nio.charset.StandardCharsets;
 import java.time.Duration;
 import java.util.Arrays;
 import java.util.OptionalLong;
+import java.util.function.Supplier;
+import java.util.function.ToIntBiFunction;
 
 /**
  * A proved schedule of zsched and the steps that it has seen, which are its whole state. It doesn't
@@ -18,25 +19,26 @@ import java.util.OptionalLong;
  */
 public final class Schedule {
     /** The calls of zsched.h. */
-    interface Calls extends Library {
-        int zs_check(byte[] text, long textLength, long[] at);
+    static final class Calls {
+        static {
+            try {
+                Native.register(Calls.class, System.getProperty("zsched.library", "zsched"));
+            } catch (UnsatisfiedLinkError fault) {
+                throw new UnsatisfiedLinkError(fault.getMessage() + "\nzsched: the jar has the library for Linux on x86-64 with "
+                    + "glibc; else name a built libzsched.so in the property zsched.library");
+            }
+        }
 
-        int zs_answer(byte[] text, long textLength, long[] seen, long pairs, long[] reply, byte[] out, long room);
-
-        int zs_bounds(byte[] text, long textLength, long[] durations, long steps, long[] bounds, long[] at);
-
-        int zs_program_size(byte[] text, long textLength, long[] size, long[] stateSize, long[] at);
-
-        int zs_compile(byte[] text, long textLength, long[] program, long words, long[] at);
-
-        int zs_program_begin(long[] program, long words, long[] state, long stateWords);
-
-        int zs_program_step(long[] program, long words, long[] state, long stateWords, long moment, long input, long[] reply,
-            byte[] out, long room);
-
-        long zs_fault_text(int number, long at, byte[] out, long room);
-
-        int zs_version();
+        static native int zs_check(byte[] text, long textLength, long[] at);
+        static native int zs_answer(byte[] text, long textLength, long[] seen, long pairs, long[] reply, byte[] out, long room);
+        static native int zs_bounds(byte[] text, long textLength, long[] durations, long steps, long[] bounds, long[] at);
+        static native int zs_program_size(byte[] text, long textLength, long[] size, long[] stateSize, long[] at);
+        static native int zs_compile(byte[] text, long textLength, long[] program, long words, long[] at);
+        static native int zs_program_begin(long[] program, long words, long[] state, long stateWords);
+        static native int zs_program_step(long[] program, long words, long[] state, long stateWords, long moment, long input,
+            long[] reply, byte[] out, long room);
+        static native long zs_fault_text(int number, long at, byte[] out, long room);
+        static native int zs_version();
     }
 
     /**
@@ -78,10 +80,7 @@ public final class Schedule {
         Answer after(long moment, long input);
     }
 
-    /**
-     * The error of a call. The number and the place are those of zsched.h, and the message is the
-     * library's.
-     */
+    /** The error of a call. The number and the place are those of zsched.h, and the message is the library's. */
     public static final class Fault extends IllegalArgumentException {
         private static final long serialVersionUID = 1;
 
@@ -97,7 +96,6 @@ public final class Schedule {
         }
     }
 
-    static final Calls CALLS = load();
     private static final int DONE = 1;
     private static final int NO_PAIR = 2;
     private static final int NO_MEMORY = 5;
@@ -115,18 +113,14 @@ public final class Schedule {
         this.text = text;
         this.bytes = text.getBytes(StandardCharsets.UTF_8);
         long[] at = new long[1];
-        refuse(CALLS.zs_check(bytes, bytes.length, at), at[0]);
+        refuse(Calls.zs_check(bytes, bytes.length, at), at[0]);
     }
 
     /** Returns the text. */
-    public String text() {
-        return text;
-    }
+    public String text() { return text; }
 
     /** Returns the steps so far, oldest first: the moment and the input of each, in turn. */
-    public long[] seen() {
-        return Arrays.copyOf(seen, 2 * pairs);
-    }
+    public long[] seen() { return Arrays.copyOf(seen, 2 * pairs); }
 
     /**
      * Makes one more step, at a moment in milliseconds and with an input, and returns its result.
@@ -139,37 +133,30 @@ public final class Schedule {
         }
         seen[2 * pairs] = moment;
         seen[2 * pairs + 1] = input;
-        Answer result = last(pairs + 1);
+        Answer result = resultOf((reply, out) ->
+            Calls.zs_answer(bytes, bytes.length, seen, pairs + 1, reply, out, out.length));
         pairs++;
         return result;
     }
 
-    /** Returns the result of the last of some steps. */
-    private Answer last(int steps) {
+    /** Returns the result of a call, which is made again with more room if the output doesn't fit, or throws its error. */
+    static Answer resultOf(ToIntBiFunction<long[], byte[]> call) {
         long[] reply = new long[4];
         byte[] out = new byte[ROOM];
-        int number = CALLS.zs_answer(bytes, bytes.length, seen, steps, reply, out, out.length);
+        int number = call.applyAsInt(reply, out);
         if (reply[1] > out.length) {
             out = new byte[Math.toIntExact(reply[1])];
-            number = CALLS.zs_answer(bytes, bytes.length, seen, steps, reply, out, out.length);
+            number = call.applyAsInt(reply, out);
         }
-        return told(number, reply, out);
-    }
-
-    /** Returns the result that a call wrote, or throws the error that its number represents. */
-    static Answer told(int number, long[] reply, byte[] out) {
         refuse(number, reply[3]);
-        String output = new String(out, 0, (int) reply[1], StandardCharsets.US_ASCII);
-        return new Answer(number == DONE, reply[0], output, reply[2]);
+        return new Answer(number == DONE, reply[0], new String(out, 0, (int) reply[1], StandardCharsets.US_ASCII), reply[2]);
     }
 
     /**
      * Returns the bounds of a text's schedule, of which at most the first {@code steps} attempts are
      * examined. Each attempt takes 1 millisecond or more. Throws {@link Fault}.
      */
-    public static Bounds bounds(String text, long steps) {
-        return bounds(text, steps, Duration.ofMillis(1), null);
-    }
+    public static Bounds bounds(String text, long steps) { return bounds(text, steps, Duration.ofMillis(1), null); }
 
     /** Does the same if each attempt takes {@code least} to {@code most}; null is no such limit. */
     public static Bounds bounds(String text, long steps, Duration least, Duration most) {
@@ -177,7 +164,7 @@ public final class Schedule {
         long[] durations = most == null ? new long[] {least.toMillis(), 0, 0} : new long[] {least.toMillis(), 1, most.plusNanos(999_999).toMillis()};
         long[] found = new long[9];
         long[] at = new long[1];
-        refuse(CALLS.zs_bounds(bytes, bytes.length, durations, steps, found, at), at[0]);
+        refuse(Calls.zs_bounds(bytes, bytes.length, durations, steps, found, at), at[0]);
         return new Bounds(found[0], found[1], limit(found[2], found[3]), found[4], limit(found[5], found[6]), limit(found[7], found[8]));
     }
 
@@ -185,26 +172,15 @@ public final class Schedule {
         return isThere == 1 ? OptionalLong.of(number) : OptionalLong.empty();
     }
 
-    private static Calls load() {
-        try {
-            return Native.load(System.getProperty("zsched.library", "zsched"), Calls.class);
-        } catch (UnsatisfiedLinkError fault) {
-            throw new UnsatisfiedLinkError(fault.getMessage() + "\nzsched: install libzsched1, or build libzsched.so by "
-                + "build/make-library and name its folder in the property jna.library.path");
-        }
-    }
-
     /** Returns the text of a number of zsched.h and its place. */
     static String faultText(int number, long at) {
         byte[] out = new byte[ROOM];
-        long size = CALLS.zs_fault_text(number, at, out, out.length);
+        long size = Calls.zs_fault_text(number, at, out, out.length);
         return new String(out, 0, (int) size, StandardCharsets.US_ASCII);
     }
 
     /** Returns the version of the library as one number: 1000000 * major + 1000 * minor + patch. */
-    public static int version() {
-        return CALLS.zs_version();
-    }
+    public static int version() { return Calls.zs_version(); }
 
     /** Throws the error that a number of zsched.h represents, if it is a fault. */
     static void refuse(int number, long at) {
@@ -216,15 +192,16 @@ public final class Schedule {
         }
     }
 
-    /** Returns a schedule with a state of fixed size; one with collectAll stores its steps. */
-    static Follower begun(String text) {
+    /** Returns what begins the schedule of a text: a stepper, of one program, or a schedule for collectAll. */
+    static Supplier<Follower> begins(String text) {
         try {
-            return new Stepper(text)::after;
+            Stepper first = new Stepper(text);
+            return () -> new Stepper(first)::after;
         } catch (Fault fault) {
             if (fault.number != KEEPS_LIST) {
                 throw fault;
             }
-            return new Schedule(text)::after;
+            return () -> new Schedule(text)::after;
         }
     }
 }

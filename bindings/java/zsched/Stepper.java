@@ -21,12 +21,19 @@ public final class Stepper {
         long[] size = new long[1];
         long[] stateSize = new long[1];
         long[] at = new long[1];
-        Schedule.refuse(Schedule.CALLS.zs_program_size(bytes, bytes.length, size, stateSize, at), at[0]);
+        Schedule.refuse(Schedule.Calls.zs_program_size(bytes, bytes.length, size, stateSize, at), at[0]);
         this.text = text;
         this.program = new long[Math.toIntExact(size[0])];
         this.state = new long[Math.toIntExact(stateSize[0])];
-        Schedule.refuse(Schedule.CALLS.zs_compile(bytes, bytes.length, program, program.length, at), at[0]);
-        Schedule.refuse(Schedule.CALLS.zs_program_begin(program, program.length, state, state.length), 0);
+        Schedule.refuse(Schedule.Calls.zs_compile(bytes, bytes.length, program, program.length, at), at[0]);
+        Schedule.refuse(Schedule.Calls.zs_program_begin(program, program.length, state, state.length), 0);
+    }
+
+    /** Makes a copy, which shares the program. */
+    Stepper(Stepper other) {
+        this.text = other.text;
+        this.program = other.program;
+        this.state = other.state;
     }
 
     /**
@@ -44,17 +51,10 @@ public final class Stepper {
     }
 
     /** Returns the text. */
-    public String text() {
-        return text;
-    }
+    public String text() { return text; }
 
-    /**
-     * Returns the words of the state. Their number depends on the text alone; the first identifies
-     * the schedule.
-     */
-    public long[] state() {
-        return state.clone();
-    }
+    /** Returns the words of the state. Their number depends on the text alone; the first identifies the schedule. */
+    public long[] state() { return state.clone(); }
 
     /**
      * Makes one more step, at a moment in milliseconds and with an input, and returns its result.
@@ -62,21 +62,12 @@ public final class Stepper {
      * then unchanged.
      */
     public Schedule.Answer after(long moment, long input) {
-        long[] reply = new long[4];
-        byte[] out = new byte[Schedule.ROOM];
-        long[] stepped = state.clone();
-        int number = step(stepped, moment, input, reply, out);
-        if (reply[1] > out.length) {
-            out = new byte[Math.toIntExact(reply[1])];
-            stepped = state.clone();
-            number = step(stepped, moment, input, reply, out);
-        }
-        Schedule.Answer result = Schedule.told(number, reply, out);
-        state = stepped;
+        long[][] stepped = new long[1][];
+        Schedule.Answer result = Schedule.resultOf((reply, out) -> {
+            long[] words = stepped[0] = state.clone();
+            return Schedule.Calls.zs_program_step(program, program.length, words, words.length, moment, input, reply, out, out.length);
+        });
+        state = stepped[0];
         return result;
-    }
-
-    private int step(long[] words, long moment, long input, long[] reply, byte[] out) {
-        return Schedule.CALLS.zs_program_step(program, program.length, words, words.length, moment, input, reply, out, out.length);
     }
 }

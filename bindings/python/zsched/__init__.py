@@ -13,9 +13,9 @@ The library is libzsched.so: the file that the variable ZSCHED_LIBRARY names, el
 folder of this file, else the one that build/make-library made in this tree, else the system's."""
 from .budgets import Budget
 from .faults import Fault, ScheduleFault
-from .retries import Attempt, Retrying, Statistics, retrying
+from .retries import Attempt, Retrying, Statistics, Tried, retrying
 from .schedules import Answer, Bounds, Schedule, Stepper, bounds, check
 
 __all__ = ["Answer", "Attempt", "Bounds", "Budget", "Fault", "Retrying", "Schedule", "ScheduleFault", "Statistics", "Stepper",
-           "bounds", "check", "retrying"]
+           "Tried", "bounds", "check", "retrying"]
 __version__ = "0.3.0"

@@ -11,7 +11,7 @@ class Budget:
     were done. So calls stop retrying when most of them fail. Threads and tasks may share a budget."""
 
     def __init__(self, tokens: float = 10, ratio: float = 0.1) -> None:
-        if not (0 < tokens < math.inf and 0 <= ratio < math.inf):
+        if not (0 <= tokens < math.inf and 0 <= ratio < math.inf):
             raise ValueError(f"zsched: a budget of {tokens} tokens and the ratio {ratio}")
         self._most, self._ratio, self._tokens, self._lock = tokens, ratio, float(tokens), threading.Lock()
 

@@ -5,8 +5,8 @@ import os
 import pathlib
 
 SONAME = "libzsched.so.1"
-MISSING = ("{fault}: the library is missing. Install libzsched1, or build it by build/make-library in a tree of zsched, and "
-           "name the built libzsched.so in ZSCHED_LIBRARY")
+MISSING = ("{fault}: the library is missing, which there is for Linux on x86-64. Install libzsched1, or build it by "
+           "build/make-library in a tree of zsched, and name the built libzsched.so in ZSCHED_LIBRARY")
 
 
 class Reply(ctypes.Structure):

@@ -1,11 +1,12 @@
 """Retries that really sleep."""
+import array
 import asyncio
 import collections.abc
 import contextlib
 import dataclasses
 import functools
 import inspect
-import operator
+import math
 import random
 import threading
 import time
@@ -13,11 +14,13 @@ import types
 import typing
 
 from .budgets import Budget
-from .schedules import Schedule, Stepper, begun, check
+from .schedules import Schedule, Stepper, begins
 
 LONGEST = threading.TIMEOUT_MAX
 GENERATORS = (types.GeneratorType, types.AsyncGeneratorType, contextlib._GeneratorContextManager,
               contextlib._AsyncGeneratorContextManager)
+P = typing.ParamSpec("P")
+R = typing.TypeVar("R", covariant=True)
 T = typing.TypeVar("T")
 
 
@@ -36,14 +39,10 @@ class Statistics:
     def __reduce__(self) -> tuple[typing.Any, ...]:
         return type(self), (self.calls, self.retries, self.given_up, self.slept)
 
-    def add_call(self) -> None:
-        """Counts a call; threads may add at once."""
+    def add(self, calls: int = 0, retries: int = 0, given_up: int = 0, slept: float = 0.0) -> None:
+        """Adds to these numbers; threads may add at once."""
         with self._lock:
-            self.calls += 1
-
-    def add(self, retries: int = 0, given_up: int = 0, slept: float = 0.0) -> None:
-        """Adds to the other numbers."""
-        with self._lock:
+            self.calls += calls
             self.retries += retries
             self.given_up += given_up
             self.slept += slept
@@ -58,8 +57,13 @@ class Attempt:
     number: int
 
     def __init__(self, run: "Run") -> None:
-        self._run = run
-        self.number = run.attempts
+        run.attempts, run.is_over = run.attempts + 1, True
+        self._run, self.number, self._begun = run, run.attempts, run.by.clock()
+
+    def left(self) -> float | None:
+        """Returns the seconds that remain of attempt_most, or None without it. The attempt has to end in time."""
+        most = self._run.by.attempt_most
+        return None if most is None else max(0.0, most - (self._run.by.clock() - self._begun))
 
     def __enter__(self) -> "Attempt":
         return self
@@ -67,6 +71,26 @@ class Attempt:
     def __exit__(self, kind: type[BaseException] | None, error: BaseException | None,
                  trace: types.TracebackType | None) -> bool:
         return self._run.is_retried(error)
+
+
+def whole_number(found: typing.Any) -> int:
+    """Returns a whole number from 0 to 2^64 - 1, or raises an error."""
+    return int(array.array("Q", [found])[0])
+
+
+def seconds(found: typing.Any) -> float:
+    """Returns a finite number of seconds, 0 for None, or raises an error."""
+    if found is not None and not math.isfinite(found):
+        raise ValueError(found)
+    return 0.0 if found is None else float(0.0 + found)
+
+
+def refuse_awaitable(result: typing.Any, why: str) -> None:
+    """Raises TypeError for an awaitable."""
+    if hasattr(type(result), "__await__"):
+        if inspect.iscoroutine(result):
+            result.close()
+        raise TypeError(f"zsched: {why}")
 
 
 class Run:
@@ -83,7 +107,7 @@ class Run:
     def __init__(self, by: "Retrying") -> None:
         self.by = by
         self.start = by.clock()
-        by.statistics.add_call()
+        by.statistics.add(calls=1)
 
     def __iter__(self) -> "Run":
         return self
@@ -96,23 +120,19 @@ class Run:
             raise StopIteration
         if self.attempts:
             self.sleep()
-        return self.begin()
+        return Attempt(self)
 
     async def __anext__(self) -> Attempt:
         if self.is_over:
             raise StopAsyncIteration
         if self.attempts:
             await self.sleep_asynchronously()
-        return self.begin()
+        return Attempt(self)
 
     def sleep(self) -> None:
         """Sleeps until the next attempt may begin."""
         if self.by.sleep is not None:
-            late = self.by.sleep(self.wait)
-            if inspect.isawaitable(late):
-                if inspect.iscoroutine(late):
-                    late.close()
-                raise TypeError(f"zsched: {self.by.sleep!r} sleeps asynchronously, and the function or loop is not asynchronous")
+            refuse_awaitable(self.by.sleep(self.wait), f"{self.by.sleep!r} sleeps asynchronously, and the function or loop doesn't")
         else:
             while (rest := self.until - self.by.clock()) > 0:
                 time.sleep(rest)
@@ -132,54 +152,25 @@ class Run:
         """Notes how early the next attempt begins. It counts as if it began at its planned moment."""
         self.early = max(0.0, self.start + self.planned / 1000 - self.by.clock())
 
-    def begin(self) -> Attempt:
-        """Returns the next attempt."""
-        self.attempts += 1
-        self.is_over = True
-        return Attempt(self)
-
     def call_hook(self, name: str, *words: typing.Any) -> typing.Any:
         """Returns what a hook returns. Raises TypeError for an awaitable, which nothing awaits."""
         result = getattr(self.by, name)(*words)
-        if hasattr(type(result), "__await__"):
-            if inspect.iscoroutine(result):
-                result.close()
-            raise TypeError(f"zsched: {name} returns an awaitable, which would not be awaited")
+        refuse_awaitable(result, f"{name} returns an awaitable, which would not be awaited")
         return result
 
-    def input_of(self, failure: typing.Any) -> int | None:
-        """Returns the input of an error or result. If there is none, adds a note to the error and returns None; if it has no
-        notes, raises ValueError."""
+    def number_of(self, name: str, failure: typing.Any, convert: collections.abc.Callable[[typing.Any], T]) -> T | None:
+        """Returns what a hook returns for an error or result, which has to be a number. If it is none, adds a note to the
+        error and returns None; a result has no notes, so then it raises ValueError."""
         try:
-            code = operator.index(self.by.input_of(failure))
-            why = f"returned {code}, which is no unsigned number of 64 bits"
+            return convert(getattr(self.by, name)(failure))
         except Exception as fault:
-            code, why = -1, f"returned no whole number: {fault!r}"
-        if 0 <= code < 2 ** 64:
-            return code
-        self.note(failure, f"input_of {why}")
-        return None
-
-    def least_of(self, failure: typing.Any) -> float | None:
-        """Returns the least seconds to sleep after an error or result. If there are none, the same as input_of."""
-        if self.by.retry_after is None:
-            return 0.0
-        try:
-            least = self.by.retry_after(failure)
-            seconds = 0.0 if least is None else 0.0 + least
-            if seconds == seconds:
-                return seconds
-            why = "nan"
-        except Exception as fault:
-            why = f"no number of seconds: {fault!r}"
-        self.note(failure, f"retry_after returned {why}")
-        return None
-
-    def note(self, failure: typing.Any, why: str) -> None:
-        """Adds to an error why it isn't retried; if it is none, raises ValueError."""
+            why = f"zsched: not tried again, since {name} returned no {convert.__name__.replace('_', ' ')}: {fault!r}"
         if not isinstance(failure, BaseException):
-            raise ValueError(f"zsched: not tried again, since {why}")
-        failure.add_note(f"zsched: not tried again, since {why}")
+            raise ValueError(why)
+        # Python 3.10 has no notes.
+        if hasattr(failure, "add_note"):
+            failure.add_note(why)
+        return None
 
     def is_retried(self, error: BaseException | None) -> bool:
         """Ends an attempt. Returns whether its error is suppressed and another attempt follows."""
@@ -198,11 +189,12 @@ class Run:
 
     def goes_on(self, failure: typing.Any) -> bool:
         """Steps the schedule by an error, or a result that counts as one. Returns whether another attempt follows."""
-        code, least = self.input_of(failure), self.least_of(failure)
+        code = self.number_of("input_of", failure, whole_number)
+        least = 0.0 if self.by.retry_after is None else self.number_of("retry_after", failure, seconds)
         if code is None or least is None:
             return False
         if self.schedule is None:
-            self.schedule = begun(self.by.schedule)
+            self.schedule = self.by.begin()
         # The attempt counts as 1 millisecond at least, even if the clock is set back or its sleep ended early.
         now = self.by.clock()
         # In whole nanoseconds, since 0.005 seconds of a clock's floats may be a little less than 5 milliseconds.
@@ -227,6 +219,7 @@ class Run:
         if self.by.jitter:
             wait = (following - max(passed, self.planned + 1)) / 1000 * (1 - self.by.jitter * random.random())
             until = min(until, now + wait)
+        least = min(least, self.by.retry_after_most)
         wait, until = max(wait, least), max(until, now + least)
         self.wait, self.until, self.planned, self.is_over = wait, until, following, False
         if self.by.sleep is None and wait > LONGEST:
@@ -234,9 +227,15 @@ class Run:
                                 ) from (failure if isinstance(failure, BaseException) else None)
 
 
-def _no_input(error: typing.Any) -> int:
-    """Returns the input of an error if the caller defines none: 0."""
-    return 0
+class Tried(typing.Protocol[P, R]):
+    """A decorated function: `with_` returns it with other options."""
+    statistics: Statistics
+    def __call__(self, *arguments: P.args, **named: P.kwargs) -> R: ...
+    def with_(self, **changes: typing.Any) -> "Tried[P, R]": ...
+    @typing.overload
+    def __get__(self, of: None, owner: typing.Any = None) -> "Tried[P, R]": ...
+    @typing.overload
+    def __get__(self, of: object, owner: typing.Any = None) -> collections.abc.Callable[..., R]: ...
 
 
 @dataclasses.dataclass(frozen=True, eq=False)
@@ -257,6 +256,9 @@ class Retrying:
         the budget has no token
     jitter: shortens each sleep by a random part of it, of at most this share, from 0 to 1
     retry_after: returns the least seconds to sleep after an error, or None
+    retry_after_most: the longest such sleep, an hour; a service that wants a longer one gets this
+    attempt_most: the seconds that an attempt of a coroutine may take; a longer one is cancelled, with
+        asyncio.TimeoutError as its error; in a loop the attempt has to end in time, by its left()
     budget: is a Budget that other calls share; without tokens the call gives up
     clock: returns seconds that don't fall
     sleep: sleeps for a number of seconds, or for fewer; without one, and without jitter, no attempt
@@ -271,29 +273,33 @@ class Retrying:
     the text is no schedule. Without `sleep`, a wait that is longer than threading.TIMEOUT_MAX
     seconds raises OverflowError.
 
-    A decorated function has `statistics`, and `with_(schedule=..)`, which returns it with other
-    options. Many calls may use one at the same time."""
+    Many calls may use one at the same time."""
 
     schedule: typing.Any
     _: dataclasses.KW_ONLY
     on: type[BaseException] | tuple[type[BaseException], ...] = Exception
-    input_of: collections.abc.Callable[[typing.Any], int] = _no_input
+    input_of: collections.abc.Callable[[typing.Any], int] = lambda error: 0
     retry_on_result: collections.abc.Callable[[typing.Any], object] | None = None
     before_sleep: collections.abc.Callable[[typing.Any, int, float], object] | None = None
     on_give_up: collections.abc.Callable[[typing.Any, int], object] | None = None
     jitter: float = 0.0
     retry_after: collections.abc.Callable[[typing.Any], float | None] | None = None
+    retry_after_most: float = 3600.0
+    attempt_most: float | None = None
     budget: Budget | None = None
     clock: collections.abc.Callable[[], float] = time.monotonic
     sleep: collections.abc.Callable[[float], typing.Any] | None = None
     statistics: Statistics = dataclasses.field(init=False, repr=False, default_factory=Statistics)
+    # Begins the schedule, of which threads share the program.
+    begin: collections.abc.Callable[[], Schedule | Stepper] = dataclasses.field(init=False, repr=False)
 
     def __post_init__(self) -> None:
         object.__setattr__(self, "schedule", self.schedule if isinstance(self.schedule, str) else self.schedule.text)
-        check(self.schedule)
+        object.__setattr__(self, "begin", begins(self.schedule))
         issubclass(Exception, self.on)
-        if not 0 <= self.jitter <= 1:
-            raise ValueError(f"zsched: a jitter of {self.jitter} is not from 0 to 1")
+        for name, most in [("jitter", 1), ("retry_after_most", LONGEST), ("attempt_most", LONGEST)]:
+            if (given := getattr(self, name)) is not None and not 0 <= given <= most:
+                raise ValueError(f"zsched: the {name} {given} is not from 0 to {most:.0f}")
         for name in ["input_of", "retry_on_result", "before_sleep", "on_give_up", "retry_after", "clock"]:
             if _is_asynchronous(getattr(self, name)):
                 raise TypeError(f"zsched: {name} is a coroutine function, which would not be awaited")
@@ -315,20 +321,23 @@ class Retrying:
             raise TypeError("zsched: a loop has no result for retry_on_result: decorate a function")
         return Run(self)
 
-    def __call__(self, function: T) -> T:
+    def __call__(self, function: collections.abc.Callable[P, R]) -> Tried[P, R]:
         """Returns the function, or coroutine function, with retries as the schedule says.
 
-        Raises TypeError for a generator function, whose body runs after the call."""
+        Raises TypeError for a generator function, whose body runs after the call, and with attempt_most
+        for a function that isn't asynchronous, which nothing can cancel."""
         if isinstance(function, (classmethod, staticmethod)):
-            return typing.cast(T, type(function)(self(function.__func__)))
+            return typing.cast(Tried[P, R], type(function)(self(function.__func__)))
         if not callable(function):
             raise TypeError(f"zsched: {function!r} is no function")
         if inspect.isgeneratorfunction(function) or inspect.isasyncgenfunction(function):
             raise _no_generator(function)
-        by = self.with_()
-        tried = (_asynchronous if _is_asynchronous(function) else _synchronous)(by, function)
+        is_late, by = _is_asynchronous(function), self.with_()
+        if self.attempt_most is not None and not is_late:
+            raise TypeError(f"zsched: {function!r} is not asynchronous, so attempt_most can't end it: use a loop, and left()")
+        tried = (_asynchronous if is_late else _synchronous)(by, function)
         tried.statistics, tried.with_ = by.statistics, lambda **changes: by.with_(**changes)(function)
-        return typing.cast(T, tried)
+        return typing.cast(Tried[P, R], tried)
 
 
 def _is_asynchronous(function: typing.Any) -> bool:
@@ -381,7 +390,8 @@ async def _awaited(run: Run, function: typing.Any, arguments: typing.Any, named:
         try:
             result = begun if begun is not None else function(*arguments, **named)
             if hasattr(type(result), "__await__"):
-                result = await result
+                most = run.by.attempt_most
+                result = await (result if most is None else asyncio.wait_for(result, most))
         except Exception as error:
             if not run.is_retried(error):
                 raise

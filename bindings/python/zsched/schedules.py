@@ -1,5 +1,6 @@
 """Schedules without sleep: stepped by the list of their steps, or by a state of fixed size."""
 import array
+import copy
 import ctypes
 import json
 import typing
@@ -53,8 +54,13 @@ def check(text: str) -> None:
     refuse(text, library().zs_check(data, len(data), at), at.value)
 
 
-def _answer(number: int, reply: Reply, out: typing.Any) -> Answer:
-    """Returns the Answer in what a call returned."""
+def _answer(text: str, call: typing.Callable[..., int]) -> Answer:
+    """Returns the Answer of a call, which is made again with more room if the output doesn't fit."""
+    number, reply, out = 0, Reply(size=ROOM), ctypes.create_string_buffer(0)
+    while reply.size > len(out):
+        out = ctypes.create_string_buffer(reply.size)
+        number = call(reply, out, len(out))
+    refuse(text, number, reply.at)
     return Answer(None if number == DONE else reply.next, out.raw[:reply.size].decode(), reply.visits)
 
 
@@ -69,11 +75,9 @@ class Schedule:
 
     def __init__(self, text: str) -> None:
         """Makes the schedule of a text, before its first step. Raises ScheduleFault."""
-        self.check(text)
+        check(text)
         self.text = text
         self._seen = array.array("Q")
-
-    check = staticmethod(check)
 
     @property
     def seen(self) -> list[tuple[int, int]]:
@@ -95,20 +99,11 @@ class Schedule:
 
     def answer(self) -> Answer:
         """Returns the Answer of the last step so far. Raises Fault if there is none."""
-        number, reply, out = self._call(ROOM)
-        if reply.size > ROOM:
-            number, reply, out = self._call(reply.size)
-        refuse(self.text, number, reply.at)
-        return _answer(number, reply, out)
-
-    def _call(self, room: int) -> tuple[int, Reply, typing.Any]:
-        """Calls zs_answer with `room` bytes for the output."""
-        data, reply, out = self.text.encode(), Reply(), ctypes.create_string_buffer(room)
+        data = self.text.encode()
         # While a view is open, the list can't be moved.
         with memoryview(self._seen):
             seen, length = self._seen.buffer_info()
-            number = library().zs_answer(data, len(data), seen, length // 2, reply, out, room)
-        return number, reply, out
+            return _answer(self.text, lambda *reply: library().zs_answer(data, len(data), seen, length // 2, *reply))
 
     def save(self) -> str:
         """Returns the schedule and its steps as a text in JSON."""
@@ -164,21 +159,15 @@ class Stepper:
         The moment is in whole milliseconds from any start. Raises Fault if it is below that of the
         step before, OverflowError if a number isn't in 0 to 2^64 - 1, and TypeError if it is no
         integer. After an error the schedule is unchanged."""
-        step = array.array("Q", (moment, input))
-        number, reply, out, state = self._step(step, ROOM)
-        if reply.size > ROOM:
-            number, reply, out, state = self._step(step, reply.size)
-        refuse(self.text, number, reply.at)
+        step, state = array.array("Q", (moment, input)), self._state
+
+        def call(*reply: typing.Any) -> int:
+            nonlocal state
+            state = self._state[:]
+            return int(library().zs_program_step(*self._program.buffer_info(), *state.buffer_info(), *step, *reply))
+        answer = _answer(self.text, call)
         self._state = state
-        return _answer(number, reply, out)
-
-    def _step(self, step: "array.array[int]", room: int) -> tuple[int, Reply, typing.Any, "array.array[int]"]:
-        """Calls zs_program_step with `room` bytes for the output.
-
-        Returns its number, reply and output, and the state after the step."""
-        reply, out, state = Reply(), ctypes.create_string_buffer(room), self._state[:]
-        number = library().zs_program_step(*self._program.buffer_info(), *state.buffer_info(), step[0], step[1], reply, out, room)
-        return number, reply, out, state
+        return answer
 
     def save(self) -> str:
         """Returns the schedule and its state as a text in JSON."""
@@ -203,14 +192,15 @@ class Stepper:
         return stepper
 
 
-def begun(text: str) -> Schedule | Stepper:
-    """Returns a text's schedule, before its first step: a Stepper, or a Schedule for collectAll."""
+def begins(text: str) -> typing.Callable[[], Schedule | Stepper]:
+    """Returns what begins a text's schedule: a Stepper, whose program they share, or a Schedule for collectAll."""
     try:
-        return Stepper(text)
+        first = Stepper(text)
     except Fault as fault:
         if fault.number != KEEPS_LIST:
             raise
-    return Schedule(text)
+        return lambda: Schedule(text)
+    return lambda: copy.copy(first)
 
 
 def bounds(schedule: str | Schedule | Stepper, steps: int, attempt: tuple[int, int | None] = (1, None)) -> Bounds:

@@ -22,6 +22,7 @@ extern crate alloc;
 
 use alloc::borrow::ToOwned;
 use alloc::string::String;
+use alloc::sync::Arc;
 use alloc::vec;
 use alloc::vec::Vec;
 use core::fmt;
@@ -73,37 +74,18 @@ struct Durations {
 
 extern "C" {
     fn zs_check(text: *const u8, text_len: usize, at: *mut u64) -> u32;
-    fn zs_answer(
-        text: *const u8,
-        text_len: usize,
-        seen: *const Seen,
-        seen_len: usize,
-        reply: *mut Reply,
-        out: *mut u8,
-        out_len: usize,
-    ) -> u32;
-    fn zs_bounds(
-        text: *const u8,
-        text_len: usize,
-        durations: *const Durations,
-        steps: u64,
-        bounds: *mut Told,
-        at: *mut u64,
-    ) -> u32;
+    #[rustfmt::skip]
+    fn zs_answer(text: *const u8, text_len: usize, seen: *const Seen, seen_len: usize,
+        reply: *mut Reply, out: *mut u8, out_len: usize) -> u32;
+    #[rustfmt::skip]
+    fn zs_bounds(text: *const u8, text_len: usize, durations: *const Durations, steps: u64,
+        bounds: *mut Told, at: *mut u64) -> u32;
     fn zs_program_size(text: *const u8, text_len: usize, size: *mut u64, state_size: *mut u64, at: *mut u64) -> u32;
     fn zs_compile(text: *const u8, text_len: usize, program: *mut u64, program_len: usize, at: *mut u64) -> u32;
     fn zs_program_begin(program: *const u64, program_len: usize, state: *mut u64, state_len: usize) -> u32;
-    fn zs_program_step(
-        program: *const u64,
-        program_len: usize,
-        state: *mut u64,
-        state_len: usize,
-        moment: u64,
-        input: u64,
-        reply: *mut Reply,
-        out: *mut u8,
-        out_len: usize,
-    ) -> u32;
+    #[rustfmt::skip]
+    fn zs_program_step(program: *const u64, program_len: usize, state: *mut u64, state_len: usize,
+        moment: u64, input: u64, reply: *mut Reply, out: *mut u8, out_len: usize) -> u32;
     fn zs_fault_text(number: u32, at: u64, out: *mut u8, out_len: usize) -> u64;
     fn zs_version() -> u32;
 }
@@ -180,22 +162,12 @@ impl Fault {
 
     /// Returns its number and place, as `zsched.h` defines them; the place is 0 if it has none.
     pub fn number(self) -> (u32, u64) {
-        match self {
-            Fault::NoPair => (2, 0),
-            Fault::Falls { at } => (3, at),
-            Fault::Earlier => (3, 0),
-            Fault::Memory => (5, 0),
-            Fault::KeepsList => (6, 0),
-            Fault::NoProgram => (8, 0),
-            Fault::OtherState => (9, 0),
-            Fault::NoDuration => (10, 0),
-            Fault::NoTerm { at } => (11, at),
-            Fault::TooBig => (12, 0),
-            Fault::BadNumber { at } => (13, at),
-            Fault::BadFactor => (14, 0),
-            Fault::NoKind => (15, 0),
-            Fault::BadWindow => (16, 0),
-        }
+        let at = match self {
+            Fault::Falls { at } | Fault::NoTerm { at } | Fault::BadNumber { at } => at,
+            _ => 0,
+        };
+        let is_it = |number: &u32| !matches!(number, 4 | 7) && Fault::of(*number, at) == self;
+        ((2..=16).find(is_it).unwrap_or(FALLS), at)
     }
 }
 
@@ -223,8 +195,12 @@ pub fn check(text: &str) -> Result<(), Fault> {
     let mut at = 0;
     // SAFETY: the pointer and the length are those of a text that is borrowed for the call, and
     // `at` is a variable.
-    let number = unsafe { zs_check(text.as_ptr(), text.len(), &mut at) };
-    if number == NEXT { Ok(()) } else { Err(Fault::of(number, at)) }
+    refuse(unsafe { zs_check(text.as_ptr(), text.len(), &mut at) }, at)
+}
+
+/// Returns the fault that a number represents, if it is one.
+fn refuse(number: u32, at: u64) -> Result<(), Fault> {
+    if number <= DONE { Ok(()) } else { Err(Fault::of(number, at)) }
 }
 
 /// What a schedule does for every input, if each attempt takes as long as was given and no moment is
@@ -280,10 +256,7 @@ pub fn bounds_for(text: &str, steps: u64, least: u64, most: Option<u64>) -> Resu
     let durations = Durations { least, has_most: most.is_some().into(), most: most.unwrap_or(0) };
     // SAFETY: the pointer and the length are those of a text that is borrowed for the call, and the
     // others are variables.
-    let number = unsafe { zs_bounds(text.as_ptr(), text.len(), &durations, steps, &mut found, &mut at) };
-    if number != NEXT {
-        return Err(Fault::of(number, at));
-    }
+    refuse(unsafe { zs_bounds(text.as_ptr(), text.len(), &durations, steps, &mut found, &mut at) }, at)?;
     let limit = |is_there: u64, value| (is_there == 1).then_some(value);
     let (most, total) = (limit(found.has_most, found.most), limit(found.has_total, found.total));
     let longest_run = limit(found.has_longest_run, found.longest_run);
@@ -303,15 +276,9 @@ pub fn answer(text: &str, seen: &[Seen]) -> Result<Answer, Fault> {
 }
 
 fn result_of(number: u32, reply: &Reply, out: &[u8]) -> Result<Answer, Fault> {
-    if number > DONE {
-        return Err(Fault::of(number, reply.at));
-    }
+    refuse(number, reply.at)?;
     let output = core::str::from_utf8(&out[..reply.size as usize]).expect("an output's text is ASCII").to_owned();
-    Ok(Answer { next: next_of(number, reply), output, visits: reply.visits })
-}
-
-fn next_of(number: u32, reply: &Reply) -> Option<u64> {
-    (number == NEXT).then_some(reply.next)
+    Ok(Answer { next: (number == NEXT).then_some(reply.next), output, visits: reply.visits })
 }
 
 fn call(text: &str, seen: &[Seen], out: &mut [u8]) -> (u32, Reply) {
@@ -385,13 +352,11 @@ impl Schedule {
 /// assert_eq!(Stepper::new("forever.collectAll"), Err(Fault::KeepsList));
 /// # Ok::<(), Fault>(())
 /// ```
-#[derive(Clone, Debug)]
+#[derive(Clone, Debug, PartialEq, Eq)]
 pub struct Stepper {
-    text: String,
-    program: Vec<u64>,
+    // Its text and its program, which clones share.
+    of: Arc<(String, Vec<u64>)>,
     state: Vec<u64>,
-    // The state before the last step. That step is made again if its output's text doesn't fit.
-    before: Vec<u64>,
 }
 
 impl Stepper {
@@ -400,22 +365,13 @@ impl Stepper {
         let (mut size, mut state_size, mut at) = (0, 0, 0);
         // SAFETY: the pointer and the length are those of a text that is borrowed for the call, and
         // the others are variables.
-        let number = unsafe { zs_program_size(text.as_ptr(), text.len(), &mut size, &mut state_size, &mut at) };
-        if number != NEXT {
-            return Err(Fault::of(number, at));
-        }
+        refuse(unsafe { zs_program_size(text.as_ptr(), text.len(), &mut size, &mut state_size, &mut at) }, at)?;
         let (mut program, mut state) = (vec![0; size as usize], vec![0; state_size as usize]);
         // SAFETY: as above, and the words are borrowed for the call.
-        let number = unsafe { zs_compile(text.as_ptr(), text.len(), program.as_mut_ptr(), program.len(), &mut at) };
-        if number != NEXT {
-            return Err(Fault::of(number, at));
-        }
+        refuse(unsafe { zs_compile(text.as_ptr(), text.len(), program.as_mut_ptr(), program.len(), &mut at) }, at)?;
         // SAFETY: the pointers and lengths are those of words that are borrowed for the call.
-        let number = unsafe { zs_program_begin(program.as_ptr(), program.len(), state.as_mut_ptr(), state.len()) };
-        if number != NEXT {
-            return Err(Fault::of(number, 0));
-        }
-        Ok(Stepper { text: text.to_owned(), program, before: state.clone(), state })
+        refuse(unsafe { zs_program_begin(program.as_ptr(), program.len(), state.as_mut_ptr(), state.len()) }, 0)?;
+        Ok(Stepper { of: Arc::new((text.to_owned(), program)), state })
     }
 
     /// Returns the schedule of a text with a state that `state` returned, or `OtherState`.
@@ -432,7 +388,7 @@ impl Stepper {
 
     /// Returns the text.
     pub fn text(&self) -> &str {
-        &self.text
+        &self.of.0
     }
 
     /// Returns the words of the state.
@@ -446,14 +402,13 @@ impl Stepper {
     ///
     /// After a fault the schedule is unchanged.
     pub fn after(&mut self, moment: u64, input: u64) -> Result<Answer, Fault> {
-        let mut out = [0; ROOM];
-        self.before.copy_from_slice(&self.state);
+        let (mut out, before) = ([0; ROOM], self.state.clone());
         let (number, reply) = self.step(moment, input, &mut out)?;
         if reply.size <= ROOM as u64 {
             return result_of(number, &reply, &out);
         }
         let mut out = vec![0; reply.size as usize];
-        self.state.copy_from_slice(&self.before);
+        self.state = before;
         let (number, reply) = self.step(moment, input, &mut out)?;
         result_of(number, &reply, &out)
     }
@@ -461,13 +416,13 @@ impl Stepper {
     /// Makes the same step, and returns only the moment at which the next attempt may begin; `None`
     /// if the schedule is done. It allocates nothing.
     pub fn next_after(&mut self, moment: u64, input: u64) -> Result<Option<u64>, Fault> {
-        self.step(moment, input, &mut []).map(|(number, reply)| next_of(number, &reply))
+        self.step(moment, input, &mut []).map(|(number, reply)| (number == NEXT).then_some(reply.next))
     }
 
     /// Makes a step, and returns what the library returned. After a fault the state is unchanged.
     fn step(&mut self, moment: u64, input: u64, out: &mut [u8]) -> Result<(u32, Reply), Fault> {
         let mut reply = Reply::default();
-        let (program, len) = (self.program.as_ptr(), self.program.len());
+        let (program, len) = (self.of.1.as_ptr(), self.of.1.len());
         let (state, state_len) = (self.state.as_mut_ptr(), self.state.len());
         // SAFETY: the pointers and lengths are those of slices that are borrowed for the call. All
         // but the program are borrowed mutably, so they overlap nothing. `zs_program_step` requires
@@ -482,11 +437,3 @@ impl Stepper {
         }
     }
 }
-
-impl PartialEq for Stepper {
-    fn eq(&self, other: &Stepper) -> bool {
-        self.text == other.text && self.state == other.state
-    }
-}
-
-impl Eq for Stepper {}

@@ -1,9 +1,11 @@
 //! Retries that really sleep.
 use crate::{Fault, Schedule, Stepper};
 use std::fmt;
-use std::future::Future;
+use std::future::{poll_fn, Future};
 use std::hash::{BuildHasher, RandomState};
+use std::pin::pin;
 use std::sync::{Mutex, PoisonError};
+use std::task::Poll;
 use std::time::{Duration, Instant};
 
 /// Why a retry ended without a value.
@@ -70,7 +72,7 @@ pub fn retry<T, E>(
     input_of: impl Fn(&E) -> u64 + Send + Sync,
     attempt: impl FnMut() -> Result<T, E>,
 ) -> Result<T, Failed<E>> {
-    Retry::new(text).input_of(input_of).call(attempt)
+    Retry::new(text)?.input_of(input_of).call(attempt)
 }
 
 /// Tokens that many calls share, as in gRPC's retry throttling.
@@ -83,13 +85,14 @@ pub fn retry<T, E>(
 /// use zsched::{Budget, Failed, Retry};
 ///
 /// static BUDGET: Budget = Budget::new(10.0, 0.1);
-/// let (mut attempts, retry) = (0, Retry::new("recurs(9)").budget(&BUDGET));
+/// let (mut attempts, retry) = (0, Retry::new("recurs(9)")?.budget(&BUDGET));
 /// let mut failing = || retry.call(|| {
 ///     attempts += 1;
 ///     Err::<(), u64>(503)
 /// });
 /// assert_eq!([failing(), failing()], [Err(Failed::Attempt(503)); 2]);
 /// assert_eq!((attempts, BUDGET.tokens()), (5 + 1, 4.0));
+/// # Ok::<(), zsched::Fault>(())
 /// ```
 #[derive(Debug)]
 pub struct Budget {
@@ -99,34 +102,41 @@ pub struct Budget {
 }
 
 impl Budget {
-    /// Returns a budget with all its tokens. gRPC's documents have 10 tokens and the ratio 0.1.
+    /// Returns a budget with all its tokens. gRPC's documents have 10 tokens and the ratio 0.1. Panics
+    /// if one of them is negative, infinite or no number.
     pub const fn new(tokens: f64, ratio: f64) -> Budget {
+        let is_well = 0.0 <= tokens && tokens < f64::INFINITY && 0.0 <= ratio && ratio < f64::INFINITY;
+        assert!(is_well, "zsched: a budget has finite tokens and a finite ratio, of at least 0");
         Budget { most: tokens, ratio, tokens: Mutex::new(tokens) }
     }
 
     /// Returns the tokens that are there.
     pub fn tokens(&self) -> f64 {
-        *self.tokens.lock().unwrap_or_else(PoisonError::into_inner)
+        self.change(0.0)
     }
 
     /// Adds the ratio after an attempt that didn't fail.
     pub fn add(&self) {
-        let mut tokens = self.tokens.lock().unwrap_or_else(PoisonError::into_inner);
-        *tokens = self.most.min(*tokens + self.ratio);
+        self.change(self.ratio);
     }
 
     /// Takes a token after a failed attempt. Returns whether a retry may follow.
     pub fn take(&self) -> bool {
+        self.change(-1.0) > self.most / 2.0
+    }
+
+    fn change(&self, by: f64) -> f64 {
         let mut tokens = self.tokens.lock().unwrap_or_else(PoisonError::into_inner);
-        *tokens = (*tokens - 1.0).max(0.0);
-        *tokens > self.most / 2.0
+        *tokens = (*tokens + by).clamp(0.0, self.most);
+        *tokens
     }
 }
 
 type Of<'a, E, T> = Box<dyn Fn(&E) -> T + Send + Sync + 'a>;
 type Notify<'a, E> = Box<dyn Fn(&E, u64, Duration) + Send + Sync + 'a>;
 
-/// A retry by a schedule, with options.
+/// A retry by a schedule, with options. Its text is compiled once, so a call that doesn't fail costs
+/// next to nothing; threads may share it.
 ///
 /// Moments are in milliseconds from the start of the first attempt. The schedule is stepped at the
 /// moment when an attempt ended, but at least 1 millisecond after the one that it planned for it, so
@@ -138,7 +148,7 @@ type Notify<'a, E> = Box<dyn Fn(&E, u64, Duration) + Send + Sync + 'a>;
 ///
 /// ```
 /// let mut attempts = 0;
-/// let found = zsched::Retry::new("(exponential(1) && recurs(5))")
+/// let found = zsched::Retry::new("(exponential(1) && recurs(5))")?
 ///     .input_of(|code: &u64| *code)
 ///     .when(|code| *code >= 500)
 ///     .notify(|code, number, wait| println!("attempt {number}: {code}, the next one in {wait:?}"))
@@ -147,29 +157,34 @@ type Notify<'a, E> = Box<dyn Fn(&E, u64, Duration) + Send + Sync + 'a>;
 ///         if attempts < 3 { Err(503) } else { Err(404) }
 ///     });
 /// assert_eq!((found, attempts), (Err::<(), _>(zsched::Failed::Attempt(404)), 3));
+/// # Ok::<(), zsched::Fault>(())
 /// ```
 pub struct Retry<'a, E> {
-    text: &'a str,
+    first: Follower,
     input_of: Of<'a, E, u64>,
     when: Of<'a, E, bool>,
     notify: Notify<'a, E>,
     retry_after: Of<'a, E, Option<Duration>>,
+    retry_after_most: Duration,
+    attempt_most: Option<(Duration, Box<dyn Fn() -> E + Send + Sync + 'a>)>,
     jitter: f64,
     budget: Option<&'a Budget>,
 }
 
 impl<'a, E> Retry<'a, E> {
-    /// Returns the retry of a text's schedule, which its calls read.
-    pub fn new(text: &'a str) -> Retry<'a, E> {
-        Retry {
-            text,
+    /// Returns the retry of a text's schedule, or the fault of the text.
+    pub fn new(text: &str) -> Result<Retry<'a, E>, Fault> {
+        Ok(Retry {
+            first: Follower::new(text)?,
             input_of: Box::new(|_| 0),
             when: Box::new(|_| true),
             notify: Box::new(|_, _, _| ()),
             retry_after: Box::new(|_| None),
+            retry_after_most: Duration::from_secs(3600),
+            attempt_most: None,
             jitter: 0.0,
             budget: None,
-        }
+        })
     }
 
     /// Sets what the schedule's input of an error is: 0 without it.
@@ -198,9 +213,28 @@ impl<'a, E> Retry<'a, E> {
         self
     }
 
-    /// Shortens each sleep by a random part of it, of at most this share, from 0 to 1.
+    /// Sets the longest sleep of `retry_after`: an hour without it. A longer one lasts as long.
+    pub fn retry_after_most(mut self, most: Duration) -> Self {
+        self.retry_after_most = most;
+        self
+    }
+
+    /// Sets how long an attempt may take. `call_async` drops a longer one, whose error is `timed_out()`.
+    /// An attempt of `call` has to end in time itself: see `limit`.
+    pub fn attempt_most(mut self, most: Duration, timed_out: impl Fn() -> E + Send + Sync + 'a) -> Self {
+        self.attempt_most = Some((most, Box::new(timed_out)));
+        self
+    }
+
+    /// Returns how long an attempt may take, if that is limited.
+    pub fn limit(&self) -> Option<Duration> {
+        self.attempt_most.as_ref().map(|it| it.0)
+    }
+
+    /// Shortens each sleep by a random part of it, of at most this share. Panics if that isn't from 0 to 1.
     pub fn jitter(mut self, share: f64) -> Self {
-        self.jitter = share.clamp(0.0, 1.0);
+        assert!((0.0..=1.0).contains(&share), "zsched: a jitter of {share} is not from 0 to 1");
+        self.jitter = share;
         self
     }
 
@@ -227,7 +261,7 @@ impl<'a, E> Retry<'a, E> {
         mut now: impl FnMut() -> Duration,
         mut sleep: impl FnMut(Duration),
     ) -> Result<T, Failed<E>> {
-        let mut run = Run::new(self)?;
+        let mut run = Run::new(self);
         loop {
             match attempt() {
                 Ok(value) => return Ok(run.succeed(value)),
@@ -243,9 +277,13 @@ impl<'a, E> Retry<'a, E> {
         mut attempt: impl FnMut() -> A,
         mut sleep: impl FnMut(Duration) -> S,
     ) -> Result<T, Failed<E>> {
-        let (mut run, start) = (Run::new(self)?, Instant::now());
+        let (mut run, start) = (Run::new(self), Instant::now());
         loop {
-            let wait = match attempt().await {
+            let ended = match &self.attempt_most {
+                Some((most, timed_out)) => within(attempt(), sleep(*most)).await.unwrap_or_else(|| Err(timed_out())),
+                None => attempt().await,
+            };
+            let wait = match ended {
                 Ok(value) => return Ok(run.succeed(value)),
                 Err(error) => run.sleep_after(start.elapsed(), error)?,
             };
@@ -255,18 +293,29 @@ impl<'a, E> Retry<'a, E> {
     }
 }
 
+/// Returns what an attempt returns, or `None` if the limit ends before it.
+async fn within<T>(attempt: impl Future<Output = T>, limit: impl Future) -> Option<T> {
+    let (mut attempt, mut limit) = (pin!(attempt), pin!(limit));
+    let first = poll_fn(|context| match attempt.as_mut().poll(context) {
+        Poll::Ready(value) => Poll::Ready(Some(value)),
+        Poll::Pending => limit.as_mut().poll(context).map(|_| None),
+    });
+    first.await
+}
+
 /// One call: its schedule, the number of attempts so far, and the planned moment of the last one.
 struct Run<'r, 'a, E> {
     of: &'r Retry<'a, E>,
-    schedule: Follower,
+    // It begins at the first error. Most calls have none.
+    schedule: Option<Follower>,
     attempts: u64,
     planned: u64,
     early: Duration,
 }
 
 impl<'r, 'a, E> Run<'r, 'a, E> {
-    fn new(of: &'r Retry<'a, E>) -> Result<Self, Fault> {
-        Ok(Run { of, schedule: Follower::new(of.text)?, attempts: 0, planned: 0, early: Duration::ZERO })
+    fn new(of: &'r Retry<'a, E>) -> Self {
+        Run { of, schedule: None, attempts: 0, planned: 0, early: Duration::ZERO }
     }
 
     /// Notes how early an attempt begins: it counts as if it began at its planned moment.
@@ -291,7 +340,8 @@ impl<'r, 'a, E> Run<'r, 'a, E> {
         if !(self.of.when)(&error) || self.of.budget.is_some_and(|it| !it.take()) {
             return Err(Failed::Attempt(error));
         }
-        let Some(next) = self.schedule.next_after(moment, (self.of.input_of)(&error))? else {
+        let schedule = self.schedule.get_or_insert_with(|| self.of.first.clone());
+        let Some(next) = schedule.next_after(moment, (self.of.input_of)(&error))? else {
             return Err(Failed::Attempt(error));
         };
         let passed = now.max(Duration::from_millis(self.planned));
@@ -299,7 +349,7 @@ impl<'r, 'a, E> Run<'r, 'a, E> {
         if self.of.jitter > 0.0 {
             wait = wait.min(Duration::from_millis(next - moment).mul_f64(1.0 - self.of.jitter * random()));
         }
-        wait = wait.max((self.of.retry_after)(&error).unwrap_or_default());
+        wait = wait.max((self.of.retry_after)(&error).unwrap_or_default().min(self.of.retry_after_most));
         self.planned = next;
         (self.of.notify)(&error, self.attempts, wait);
         Ok(wait)
@@ -312,6 +362,7 @@ fn random() -> f64 {
 }
 
 /// A schedule with a state of fixed size; one with `collectAll` stores its steps instead.
+#[derive(Clone)]
 enum Follower {
     Flat(Stepper),
     Listed(Schedule),

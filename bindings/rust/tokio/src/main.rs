@@ -42,14 +42,14 @@ async fn main() -> Result<(), Box<dyn std::error::Error>> {
             counted.fetch_add(1, Relaxed);
             fetch(server)
         };
-        Retry::new(SCHEDULE).input_of(|code| *code).budget(&BUDGET).call_async(attempt, tokio::time::sleep).await
+        Retry::new(SCHEDULE)?.input_of(|code| *code).budget(&BUDGET).call_async(attempt, tokio::time::sleep).await
     });
     let (text, attempts) = (retrying.await?.map_err(|failed| failed.to_string())?, attempts.load(Relaxed));
     println!("{text} after {attempts} attempts");
     assert_eq!((text.as_str(), attempts, BUDGET.tokens()), ("ready", BUSY + 1, 7.5));
     assert!(start.elapsed().as_millis() >= 140);
     // Ten seconds of waits would be too long: a timeout drops the retry.
-    let never = Retry::new("spaced(10000)");
+    let never = Retry::new("spaced(10000)")?;
     let retrying = never.call_async(|| async { Err::<(), u64>(503) }, tokio::time::sleep);
     assert!(tokio::time::timeout(Duration::from_millis(20), retrying).await.is_err());
     serving.await??;
