@@ -1,4 +1,4 @@
-"""The bounds of a policy for every input, as the program zsched-bounds prints them: lines of JSON, each shown as text."""
+"""The bounds of a policy for every input, as zsched-bounds prints them: lines of JSON, each shown as text."""
 import json
 from dataclasses import dataclass, replace
 
@@ -24,7 +24,8 @@ def rounded(ms):
 class Bounds:
     """The least and the most attempts until a policy gives up, the longest wait and all waits together in milliseconds,
     the number of steps that were evaluated, the time from the begin of the first attempt to the end of the last,
-    whether attempts have a greatest duration, and whether the policy never gives up. None is an unknown number."""
+    whether attempts have a greatest duration, whether the policy never gives up, and whether the program was proved.
+    None is an unknown number."""
     least: int
     most: int | None
     longest: int
@@ -33,6 +34,7 @@ class Bounds:
     run: int | None = None
     is_limited: bool = False
     is_endless: bool = False
+    is_proved: bool = True
 
     def attempts(self):
         if self.is_endless:
@@ -85,6 +87,11 @@ class Bounds:
         return f"{self.attempts()}; {self.waits()}{self.end()}"
 
 
+def mark(*bounds):
+    """What is before each line that says something for every input."""
+    return "" if all(it.is_proved for it in bounds) else "unproved: "
+
+
 def of_policies(path, policies, attempt=None):
     """The bounds of each Policy, for every draw if it is random. `attempt` is as that of `run`."""
     groups = [list((it.limits() or ())[:2]) if it.is_drawn or it.is_less else [it.spelled] for it in policies]
@@ -110,8 +117,8 @@ def _of_draws(path, policy, found, attempt):
 
 
 def run(path, policies, seconds=None, attempt=None):
-    """The bounds of each policy by the program at this path. `attempt` has the least and the greatest duration of attempts
-    (None: any). subprocess.TimeoutExpired is raised after the seconds."""
+    """The bounds of each policy by the program at this path. `attempt` has the least and the greatest duration of
+    attempts (None: any). subprocess.TimeoutExpired is raised after the seconds."""
     options = ["--attempt", "{}ms..{}ms".format(*attempt)] if attempt else []
     given = "".join(f"{policy}\n" for policy in policies).encode()
     status, printed, errors = program.run(path, given, seconds, options)
@@ -120,10 +127,11 @@ def run(path, policies, seconds=None, attempt=None):
     lines = printed.splitlines()
     if len(lines) != len(policies):
         raise ChildProcessError(f"{path} printed {plural(len(lines), 'line')} for {len(policies)} policies")
+    is_proved = program.is_proved(path)
     try:
         return [Bounds(read["attempts"]["least"], read["attempts"]["most"], read["longest_wait"], read["total_wait"],
                        read["steps_seen"], read["longest_run"], read["attempt"]["most"] is not None,
-                       read["never_gives_up"])
+                       read["never_gives_up"], is_proved)
                 for read in map(json.loads, lines)]
     except (ValueError, KeyError, TypeError):
         raise ChildProcessError(f"{path} printed a line without bounds") from None

@@ -7,6 +7,7 @@ import io
 import os
 import pathlib
 import shutil
+import signal
 import sys
 
 from zsched_tools.words import WIDTH, shown
@@ -26,7 +27,7 @@ class Refused(Exception):
 def run(tool, work):
     """Does a command's work and returns its exit status: that of the work (None is 0), 2 if the input is rejected or a
     program isn't there, 3 if reading, writing or a program failed, 130 if the user interrupted it. Each of these has
-    one line on standard error. `starting.run` does so too, but writes no line if its reader closes standard output."""
+    one line on standard error. If the reader of standard output closes it, the process ends by SIGPIPE, as `yes`."""
     if sys.stdout is None:
         return _told(tool, "standard output is closed", FAILED)
     try:
@@ -38,8 +39,10 @@ def run(tool, work):
     except RecursionError:
         return _told(tool, "the input is nested too deeply", REFUSED)
     except BrokenPipeError:
+        sys.stderr.flush()
         _drop_output()
-        return _told(tool, "the reader of standard output closed it", FAILED)
+        signal.signal(signal.SIGPIPE, signal.SIG_DFL)
+        return os.kill(os.getpid(), signal.SIGPIPE)
     except OSError as failure:
         _drop_output()
         place = failure.filename or ("standard output" if failure.errno in _OF_OUTPUT else "")
@@ -57,7 +60,7 @@ def _drop_output():
 
 
 def version():
-    """The version, as `0.3.0`."""
+    """The version in the file VERSION."""
     for folder in _HERE.parents[1:3]:
         file = folder / "VERSION"
         if file.is_file():

@@ -1,8 +1,10 @@
 """Policies in the words of the tools: schedules with sugar, random numbers, names, and policies of config files.
 
 docs/FORMATS.md has all forms. A schedule has no random numbers, so each draw is a schedule in which its numbers are
-written. The waits of `S jitter ..` come from the program, and must depend on nothing but their number. The first 239
-are drawn one by one, and all later ones, which must be equal, with one draw."""
+written. A source of draws, as `seeded`, gets the number of a random part of the text, and returns the draws of this
+part: a function of the number of a wait, and of the least and the greatest number. The waits of `S jitter ..` come from
+the program, and must depend on nothing but their number. The first 239 are drawn one by one, and all later ones, which
+must be equal, with one draw."""
 import contextlib
 import functools
 import itertools
@@ -26,30 +28,30 @@ from zsched_tools.words import duration
 
 MOST_DELAYS = 240
 MOST_WAITS = 999
-LOW, HIGH = "low", "high"
+_MASK = 2**64 - 1
 GREATEST_WAITS = "each wait has its greatest value"
 _NAME = re.compile(r" *([A-Za-z0-9._-]{1,64}) *: *")
-_CALL = re.compile(r"(?<![A-Za-z])(rand|jitter|delays|exponential)(?![A-Za-z]) *(?:\(([^()]*)\))?")
+_CALL = re.compile(r"(?<![A-Za-z])(rand|jitter|delays|decorrelated|exponential)(?![A-Za-z]) *(?:\(([^()]*)\))?")
+_FORMS = {**TABLE["draws"], "decorrelated": "decorrelated(2000, 3)"}
+_PARTS = 2**40
 _PART = r"[0-9]{1,9}(?:/[1-9][0-9]{0,8})?"
 _AFTER = re.compile(rf" *(?<![A-Za-z])jitter +(full|equal|([0-9]{{1,3}}(?:\.[0-9]{{1,9}})?) *%|({_PART})\.\.({_PART}))"
                     "(?![A-Za-z0-9/])")
 _LIMIT = r"elapsed\.whileOutput\(<=? *[0-9]+ *\)"
 _LIMITED = re.compile(rf"\( *(.*\S) *&& *{_LIMIT} *\)")
 _OF_INPUT = re.compile(r"(.*)\.whileInput\([^()]*\)")
-# Waits that are all equal.
-_EQUAL = re.compile(r"\(*spaced\(([0-9]+)\)(?: && (?:recurs\([0-9]+\)|elapsed\.whileOutput\(< [0-9]+\))\))*")
 _UNSTEADY = {"elapsed", "fixed", "windowed", "identity", "whileInput"}
 _RANDOM_WAIT = re.compile(r"(?:spaced|linear|fibonacci|exponential)\( *\Z")
 
 
 class Piece(NamedTuple):
     """A piece of a policy's text. `spelled` is its text without sugar. `draw` returns that of a draw: it gets a source
-    of random numbers, or LOW or HIGH for the least or the greatest draw, and the most waits (None: all). It is None if
-    nothing is random."""
+    of draws of this part, and the most waits (None: all). It is None if nothing is random, and empty for the words of a
+    jitter."""
     at: int
     size: int
     spelled: str
-    draw: Callable | None = None
+    draw: Callable | str | None = None
 
 
 def refuse(at, size, what, help="", **values):
@@ -57,26 +59,55 @@ def refuse(at, size, what, help="", **values):
     raise FaultAt(Cause(at, size, *(hints.said(it, **values) for it in (what, help))))
 
 
-def drawn(random, least, most):
-    """A whole number from least to most, each equally likely; for LOW and HIGH that end. It uses only `random.random`,
-    whose numbers for a seed are the same in all versions of Python."""
-    if isinstance(random, str):
-        return least if random == LOW else most
-    return least + int(random.random() * (most - least + 1))
+def LOW(_):
+    """The least draws."""
+    return lambda number, least, most: least
+
+
+def HIGH(_):
+    """The greatest draws."""
+    return lambda number, least, most: most
+
+
+def RANGES(part):
+    """A text for each draw, by which two policies can be compared."""
+    return lambda number, least, most: f"{least}..{most} of {part}.{number}"
+
+
+def _mixed(number):
+    """A step of the generator SplitMix64 from a state: a number of 64 bits."""
+    number = number + 0x9E3779B97F4A7C15 & _MASK
+    number = (number ^ number >> 30) * 0xBF58476D1CE4E5B9 & _MASK
+    number = (number ^ number >> 27) * 0x94D049BB133111EB & _MASK
+    return number ^ number >> 31
+
+
+def seeded(seed, client=0):
+    """The draws of a client: each number equally likely, by the seed, the client, the random part and the number of the
+    wait alone."""
+    head = _mixed(_mixed(seed) + client)
+
+    def of_part(part):
+        begin = _mixed(head + part)
+        return lambda number, least, most: least + (_mixed(begin + number) * (most - least + 1) >> 64)
+    return of_part
 
 
 class Policy:
     """A policy's text, read once and drawn any number of times. FaultAt has a fault with its place in the text.
-    `zsched` is the program's path (None: the one that is found). `timeout` is its config's limit of an attempt."""
+    `zsched` is the program's path (None: the one that is found). `timeout` is its config's limit of an attempt,
+    `deadline` that of the whole call."""
 
     def __init__(self, text, zsched=None):
-        self.text, self.zsched, self.left_out, self.timeout = text, zsched, [], None
+        self.text, self.zsched, self.left_out = text, zsched, []
+        self.timeout = self.deadline = self.jitter = None
         found = _NAME.match(text)
         self.name, self.begin = (found[1], found.end()) if found else ("", 0)
         self.source = text[self.begin:]
         try:
             if self.source.startswith("@"):
-                self.name, self.source, self.timeout, self.left_out = _of_file(self.source, self.name)
+                self.name, self.source, limits, self.left_out, self.jitter = _of_file(self.source, self.name)
+                self.timeout, self.deadline = limits
             self._read()
         except FaultAt as fault:
             raise FaultAt(fault.cause._replace(at=self.begin + fault.cause.at)) from None
@@ -115,14 +146,15 @@ class Policy:
         """Whether the schedule has only the first waits of its config."""
         return any(what.startswith("waits after the first ") for what in self.left_out)
 
-    def texts(self, random, most=None):
-        """The text of each piece in the next draw."""
-        return [piece.draw(random, most) if piece.draw else piece.spelled for piece in self.pieces]
+    def texts(self, source, most=None):
+        """The text of each piece with the draws of a source."""
+        parts = map(source, itertools.count())
+        return [piece.spelled if piece.draw is None else piece.draw and piece.draw(next(parts), most)
+                for piece in self.pieces]
 
-    def schedule(self, random, most=None):
-        """The schedule of the next draw; for LOW and HIGH that of the least and the greatest waits. With `most` it may
-        have only so many of its drawn waits."""
-        return "".join(self.texts(random, most))
+    def schedule(self, source, most=None):
+        """The schedule with the draws of a source. With `most` it may have only so many of its drawn waits."""
+        return "".join(self.texts(source, most))
 
     def show(self, tool, is_limited=False):
         """Writes the schedule that the text becomes, and what that leaves out, to standard error. `is_limited` says
@@ -131,15 +163,17 @@ class Policy:
         if self.timeout:
             limit = f"the limit of an attempt, {duration(self.timeout)}"
             lines.append(f"has {limit}" if is_limited else f"leaves out {limit}")
+        if self.deadline:
+            lines.append(f"has a limit of the call, {duration(self.deadline)}, which --require-end @ takes")
         for line in [*lines, *(f"leaves out {what}" for what in self.left_out)]:
             print(f"{tool}: {self.text} {line}", file=sys.stderr)
 
-    def cause_at(self, random, cause):
-        """A cause in the schedule of the next draw as one in the policy: a piece with sugar is one place."""
+    def cause_at(self, source, cause):
+        """A cause in the schedule of a draw as one in the policy: a piece with sugar is one place."""
         if self.source != self.text[self.begin:]:
             return cause._replace(at=0, size=len(self.text))
         at = cause.at
-        for piece, text in zip(self.pieces, self.texts(random)):
+        for piece, text in zip(self.pieces, self.texts(source)):
             if at < len(text) or piece is self.pieces[-1]:
                 is_whole = text != self.source[piece.at:piece.at + piece.size]
                 begin = self.begin + piece.at
@@ -147,13 +181,13 @@ class Policy:
             at -= len(text)
         return cause
 
-    def check(self, zsched, random=HIGH):
+    def check(self, zsched, source=HIGH):
         """Runs the program on the schedule of a draw. FaultAt has a fault of the schedule."""
-        schedule = self.schedule(random)
+        schedule = self.schedule(source)
         status, _, errors = program.report_of(zsched, program.one_job(0, schedule, '{"ms":1,"ok":0}'), 1)
         line = program.failure(status, errors)
         if status == REFUSED:
-            raise FaultAt(self.cause_at(random, any_cause(schedule, line.partition("schedule: ")[2])))
+            raise FaultAt(self.cause_at(source, any_cause(schedule, line.partition("schedule: ")[2])))
         if status:
             raise OSError(f"{zsched}: {line}")
 
@@ -192,7 +226,7 @@ class Policy:
             refuse(begin, end - begin, "drawn_already", "or_rand")
         if unsteady:
             refuse(begin, end - begin, "depend", "without", text=min(unsteady))
-        ends, word = _ends(found), Piece(found.start(), len(found[0]), found[0], lambda *_: "")
+        ends, word = _ends(found), Piece(found.start(), len(found[0]), found[0], "")
         made = functools.cache(lambda: _jittered(self.zsched or program.find(), inner, begin, ends))
         return word, Piece(begin, end - begin, inner.spelled, lambda *draw: _filled(*made(), *draw))
 
@@ -242,18 +276,21 @@ def _called(found):
         return Piece(at, size, _spelled(at, size, lambda: spelling.listed(waits), len(waits)))
     if word == "jitter" and found[2] is None:
         refuse(at, size, "no_jitter", "jitters")
-    form, many = TABLE["draws"][word], TABLE["draws"][word].count(",") + 1
+    form, many = _FORMS[word], _FORMS[word].count(",") + 1
     if len(texts) != many or not all(it.isascii() and it.isdigit() and len(it) < 20 for it in texts):
         refuse(at, size, "takes_numbers", "write", word=word, count=many, text=form)
     least, most, count = map(int, [*texts, 1][:3])
+    if word == "decorrelated" and 1 <= most <= MOST_DELAYS:
+        return Piece(at, size, found[0], lambda *draw: _decorrelated(least, most, *draw))
+    count = most if word == "decorrelated" else count
     if word == "rand":
         if least > most:
             refuse(at, size, "falling", "write", text=f"rand({most}, {least})")
-        return Piece(at, size, found[0], lambda random, _: str(drawn(random, least, most)))
+        return Piece(at, size, found[0], lambda draw, _: str(draw(0, least, most)))
     if not 1 <= count <= MOST_DELAYS:
         refuse(at, size, "many_draws", "no_more_draws", count=count, most=MOST_DELAYS)
     ranges = [(0, min(most, least << min(number, 64), MAX_WHOLE)) for number in range(count)]
-    return Piece(at, size, found[0], lambda *draw: _filled((_delay("%d"),) * count, ranges, *draw))
+    return Piece(at, size, found[0], lambda *draw: _filled((_delay("%s"),) * count, ranges, *draw))
 
 
 def _milliseconds(at, size, text):
@@ -291,27 +328,19 @@ def _spelled(at, size, make, retries, help=""):
 
 
 def _of_file(text, called):
-    """The policy of a text @FILE#NAME: name, schedule with jitter, the limit of an attempt, what is left out."""
+    """The policy of a text @FILE#NAME: name, schedule with jitter, the limits of an attempt and of the call, what is
+    left out, and the jitter if that is."""
     from zsched_tools.policy import command
     path, _, name = text[1:].partition("#")
     if not path:
         refuse(0, len(text), "the name of a file is missing", "write @FILE#NAME")
     line = command.line_of_file(path, name or None)
-    jitter, left_out, schedule = line["jitter"] or {}, line["left_out"], line["schedule"]
+    left_out = line["left_out"]
     left_out += [f"that only these are retried: {', '.join(line['retries_on'])}"] if line["retries_on"] else []
-    least, percent = None, Fraction(str(jitter.get("percent", 0))) / 100
-    if jitter == {"kind": "full"}:
-        schedule += " jitter full"
-    elif jitter.get("kind") == "proportional":
-        least = (1 - percent) / (1 + percent)
-    elif jitter.get("kind") == "added" and percent:
-        least = 1 / (1 + percent)
-    elif jitter.get("kind") == "added" and (only := _EQUAL.fullmatch(schedule)):
-        least = 1 - Fraction(jitter["up_to_ms"], int(only[1]))
-    elif jitter:
-        left_out = [*left_out, f"{jitter['kind']} jitter: {GREATEST_WAITS}"]
-    schedule += "" if least is None else f" jitter {least}..1"
-    return called or plain_name(line["name"]), schedule, line["attempt_timeout_ms"], left_out
+    jitter = None if line["drawn"] else line["jitter"]
+    left_out += [f"{jitter['kind']} jitter: {GREATEST_WAITS}"] if jitter else []
+    schedule, limits = line["drawn"] or line["schedule"], (line["attempt_timeout_ms"], line["deadline_ms"])
+    return called or plain_name(line["name"]), schedule, limits, left_out, jitter
 
 
 @functools.cache
@@ -340,20 +369,31 @@ def _jittered(zsched, inner, at, ends):
     room = MOST_DELAYS if is_all and len(waits) <= MOST_DELAYS else MOST_DELAYS - 1
     if len(set(waits[room:])) > 1 or (len(waits) == MOST_WAITS and not is_endless):
         refuse(at, len(inner.text), "many_waits", "fewer", most=MOST_DELAYS)
-    tail = [] if is_all and not waits[room:] else [_delay("%d", len(waits) - room) if is_all else "spaced(%d)"]
-    terms = (_delay("%d"),) * len(waits[:room]) + (*tail,)
+    tail = [] if is_all and not waits[room:] else [_delay("%s", len(waits) - room) if is_all else "spaced(%s)"]
+    terms = (_delay("%s"),) * len(waits[:room]) + (*tail,)
     waits = waits[:room] + (waits[-1:] or [MAX_WHOLE]) * len(tail)
     greatest = [min(floor(wait * ends[1]), MAX_WHOLE) for wait in waits]
     ranges = [(min(ceil(wait * ends[0]), most), most) for wait, most in zip(waits, greatest)]
     return terms or ("recurs(0)",), ranges
 
 
-def _filled(terms, ranges, random, most):
+def _filled(terms, ranges, draw, most):
     """The first `most` terms (None: all), one after another, with a number of each range in their places."""
-    numbers = tuple([drawn(random, least, greatest) for least, greatest in ranges[:most]])
-    for _ in ranges[len(numbers):]:
-        drawn(random, 0, 0)
-    return _one_after_another(terms[:most]) % numbers
+    return _one_after_another(terms[:most]) % tuple(draw(number, *it) for number, it in enumerate(ranges[:most]))
+
+
+def _decorrelated(first, count, draw, most):
+    """The waits of Polly's jitter in a draw; of the ends of all draws each wait's least and greatest."""
+    waits = parts = [draw(number, 0, _PARTS) for number in range(count)]
+    if isinstance(parts[0], str):
+        waits = [f"{first} by {part}" for part in parts]
+    elif set(parts) == {_PARTS}:
+        waits = [spelling.decorrelated(first, it + 1, it - 1) for it in range(count)]
+    elif any(parts):
+        moments = [number + part / _PARTS for number, part in enumerate(parts)]
+        waits = [spelling.decorrelated(first, *it) for it in zip(moments, [0, *moments])]
+    waits = [it if isinstance(it, str) else min(spelling.nearest(it), MAX_WHOLE) for it in waits[:most]]
+    return _one_after_another(tuple(map(_delay, waits)))
 
 
 def _delay(wait, count=1):

@@ -32,11 +32,6 @@ class Plan:
         except UnicodeDecodeError as bad:
             self.text, self.no_utf8 = data.decode(errors="replace"), len(data[:bad.start].decode())
 
-    def look(self):
-        """Scans for everything that takes time to find, before the fault is known."""
-        if self.no_utf8 is None and len(self.data) <= MAX_BYTES and self.no_json is None:
-            self.root.document.end_of(self.root.at)
-
     @functools.cached_property
     def no_json(self):
         """The Cause if the text is not JSON, else None."""

@@ -1,5 +1,5 @@
-"""The texts of faults, which docs/play.html has, and what the user may have meant: similar words, and names of ZIO that
-a plan spells differently."""
+"""The texts of faults, which docs/play.html has too, and what the user may have meant: similar words, and names of ZIO
+that a plan spells differently."""
 import difflib
 import functools
 import json
@@ -7,7 +7,7 @@ import pathlib
 import re
 
 _HERE = pathlib.Path(__file__).resolve()
-_PLACES = [_HERE.parents[2] / "docs" / "play.html", _HERE.parents[1] / "play.html"]
+PAGES = [_HERE.parents[2] / "docs" / "play.html", _HERE.parents[1] / "play.html"]
 DOCUMENT_KEYS = ["horizon", "ticks", "workers", "grain", "jobs"]
 JOB_KEYS = ["name", "mode", "schedule", "start", "script"]
 ENTRY_KEYS = ["ms", "ok", "err"]
@@ -16,7 +16,7 @@ ENTRY_KEYS = ["ms", "ok", "err"]
 @functools.cache
 def page():
     """docs/play.html, in the tree or in the package."""
-    return next(place for place in _PLACES if place.is_file()).read_text(encoding="utf-8")
+    return next(place for place in PAGES if place.is_file()).read_text(encoding="utf-8")
 
 
 def piece(name):
@@ -24,8 +24,9 @@ def piece(name):
     return re.search(rf'<(script|style)[^>]* id="{name}">\n(.*?)</\1>', page(), re.S)[2]
 
 
-# The texts of faults, and what they are about: one table for the tools and for docs/play.html.
-TABLE = json.loads(piece("texts"))
+# The texts of faults, and what they are about: one table for the tools and for docs/play.html, into which it is built.
+TEXTS = _HERE.with_name("texts.json").read_text(encoding="utf-8")
+TABLE = json.loads(TEXTS)
 
 
 def said(name, **values):

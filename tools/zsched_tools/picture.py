@@ -26,14 +26,14 @@ STYLE = """svg{color-scheme:light dark}text{font-family:"DejaVu Sans",Verdana,Ge
 .axis,.legend,.mode,.wide{fill:#616e7c}
 .page{fill:#fff}.band{fill:#f5f7fa}.grid{stroke:#d9dee4}.edge{stroke:#7b8794}
 .horizon{stroke:#52606d;stroke-dasharray:6 3 1 3}
-.ok{fill:#0a8f6a}.err{fill:#d1495b}.good{fill:#087456}.bad{fill:#b8304a}.open{fill:#616e7c}
+.ok{fill:#0a8f6a}.err{fill:#8f1d3f}.good{fill:#087456}.bad{fill:#b8304a}.open{fill:#616e7c}
 .running{fill:url(#running);stroke:#8a6fc1}.hatch{fill:#e2dbf0}.line{stroke:#8a6fc1;stroke-width:3}
 .many{fill:url(#many)}.stripe{fill:#fff;fill-opacity:.55}
 .wait,.arrow{fill:none;stroke:#7b8794}.wait{stroke-dasharray:2 3}
 .sign{fill:none;stroke:#fff;stroke-width:1.6}.hole{fill:#fff}
 @media(prefers-color-scheme:dark){text{fill:#e4e7eb}.axis,.legend,.mode,.wide{fill:#a3afbb}
 .page,.hole{fill:#14191f}.band{fill:#1d252e}.grid{stroke:#3e4c59}.edge,.horizon,.wait,.arrow{stroke:#9aa5b1}
-.ok{fill:#2bb08a}.err{fill:#e0616f}.good{fill:#37c29b}.bad{fill:#f0808f}.open{fill:#a3afbb}
+.ok{fill:#62dcb6}.err{fill:#cf4a60}.good{fill:#37c29b}.bad{fill:#f0808f}.open{fill:#a3afbb}
 .hatch{fill:#2f2844}.line{stroke:#a48cd8}.running{stroke:#a48cd8}.stripe{fill:#14191f}.sign{stroke:#14191f}}"""
 
 PATTERNS = ('<pattern id="running" width="6" height="6" patternUnits="userSpaceOnUse" patternTransform="rotate(45)">'

@@ -1,11 +1,13 @@
 """The path of the program, one run of it, and the length of its longest plan."""
 import contextlib
+import functools
 import json
 import os
 import pathlib
 import re
 import shutil
 import subprocess
+import sys
 import tempfile
 
 from zsched_tools.command import Refused, naming
@@ -13,6 +15,8 @@ from zsched_tools.command import Refused, naming
 # The limits of a plan: its bytes, its jobs, the entries of a script, of which the last one repeats, and its last
 # moment.
 MAX_BYTES, MOST_JOBS, MOST_ENTRIES, LAST_MOMENT = 16_777_216, 10_000, 1000, 999_999_999_999_999
+# The end of a program that build/unproved.py built.
+UNPROVED = b"\nunproved\n"
 _HERE = pathlib.Path(__file__).resolve()
 CRATES = _HERE.parents[2] / "crates"
 # The folder of the programs that were installed with these tools, which are in share/zsched beside it.
@@ -24,14 +28,11 @@ class NoProgram(Refused):
 
 
 def find(named=None):
-    """The program's path: the given one, else that of the variable ZSCHED, else the one that this tree built, else the
-    one that was installed with these tools, else the one on PATH."""
+    """The program's path: the given one, else that of the variable ZSCHED, else the last one that this tree built, else
+    the one that was installed with these tools, else the one on PATH."""
     found = find_beside("zsched", named)
     if found is None:
-        unproved = sorted((CRATES / "zsched" / "out").glob("unproved-*"))
-        which = f"{unproved[-1]}, unproved" if unproved else "the unproved one that ./run leaves in crates/zsched/out"
-        raise NoProgram("zsched is neither built (./run --proved builds it) nor installed; --zsched PATH or ZSCHED "
-                        f"names one, as {which}")
+        raise NoProgram("zsched is neither built (./run builds it) nor installed; --zsched PATH or ZSCHED names one")
     return found
 
 
@@ -43,15 +44,32 @@ def find_beside(name, named=None):
                 raise NoProgram(f"no program at {place}")
             return str(place)
     crate = name.replace("-", "_")
-    built = CRATES / crate / "out" / crate
-    if os.access(built, os.X_OK):
-        return str(built)
+    out = CRATES / crate / "out"
+    built = [it for it in [out / crate, *out.glob("unproved-*")] if os.access(it, os.X_OK)]
+    if built:
+        last = max(built, key=lambda it: it.stat().st_mtime)
+        if not is_proved(last):
+            _say_unproved()
+        return str(last)
     return INSTALLED and shutil.which(name, path=INSTALLED) or shutil.which(name)
 
 
 def find_bounds(named=None):
     """The path of zsched-bounds, or None if it isn't found."""
     return find_beside("zsched-bounds", named)
+
+
+def is_proved(path):
+    """Whether a program's file can be read, and hasn't the mark of build/unproved.py."""
+    with contextlib.suppress(OSError):
+        return os.path.isfile(path) and not pathlib.Path(path).read_bytes().endswith(UNPROVED)
+    return False
+
+
+@functools.cache
+def _say_unproved():
+    tool = os.path.basename(sys.argv[0])
+    print(f"{tool}: takes the programs that ./run built, unproved (./run --proved proves them)", file=sys.stderr)
 
 
 def job_text(name, schedule, entries, mode="retry", start=None):

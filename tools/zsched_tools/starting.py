@@ -46,22 +46,20 @@ def parsed(parser):
 
 
 def run(tool, work):
-    """Does a command's work and returns its exit status, as `command.run` does. If the reader of standard output closes
-    it, the process ends by SIGPIPE, as `yes` does. Ctrl-C is an exception in the work, so that it can clean up."""
+    """Does a command's work and returns its exit status, as `command.run` does. Ctrl-C is an exception in the work, so
+    that it can clean up."""
     from zsched_tools import command
     before = signal.getsignal(signal.SIGINT)
 
-    def quietly():
+    def interruptible():
         try:
             signal.signal(signal.SIGINT, signal.default_int_handler)
             status = work()
             sys.stdout.flush()
             return status
-        except BrokenPipeError:
-            end_by_pipe()
         finally:
             signal.signal(signal.SIGINT, before)
-    return command.run(tool, quietly)
+    return command.run(tool, interruptible)
 
 
 def command(tool, arguments, work):
@@ -72,11 +70,3 @@ def command(tool, arguments, work):
         command.color(given.color)
         return run(tool, lambda: work(given))
     return main
-
-
-def end_by_pipe():
-    """Ends this process by SIGPIPE, without a message."""
-    sys.stderr.flush()
-    os.dup2(os.open(os.devnull, os.O_WRONLY), sys.stdout.fileno())
-    signal.signal(signal.SIGPIPE, signal.SIG_DFL)
-    os.kill(os.getpid(), signal.SIGPIPE)

@@ -48,9 +48,10 @@ class Tried:
     waited: int
     longest: int
 
-    def line(self):
-        ending = f"{self.how} {self.result}".strip()
-        return (f"{ending} after {plural(self.attempts, 'attempt')}, {duration(self.at)} "
+    def line(self, each=None):
+        """The result in words, with the length of each attempt if it is given."""
+        ending, length = f"{self.how} {self.result}".strip(), "" if each is None else f" of {duration(each)}"
+        return (f"{ending} after {plural(self.attempts, 'attempt')}{length}, {duration(self.at)} "
                 f"(waited {duration(self.waited)}, longest wait {duration(self.longest)})")
 
 

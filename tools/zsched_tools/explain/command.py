@@ -1,12 +1,9 @@
-"""The command zsched-explain: runs the program on a plan, and shows the place of its fault in the plan.
-
-While the program runs, a thread scans the plan, which takes longest. The modules for that are imported then."""
+"""The command zsched-explain: runs the program on a plan, and shows the place of its fault in the plan."""
 import argparse
-import subprocess
 import sys
-import threading
 
-from zsched_tools import command, place, plan_size, program, starting
+from zsched_tools import command, faults, place, plan_size, program, starting
+from zsched_tools.explain import all_faults
 from zsched_tools.words import WIDTH, shown
 
 ABOUT = """Runs zsched on a plan, and shows where the plan's fault is.
@@ -29,8 +26,6 @@ STATUSES = """exit status:
   3  reading or writing failed, or zsched did: no memory, no thread, a signal"""
 TOOL = "zsched-explain"
 MOST_FAULTS = 10
-# The seconds after which a plan with fewer jobs is tried.
-PATIENCE = 2
 
 
 class Words(argparse.ArgumentParser):
@@ -58,26 +53,21 @@ def words():
 def _explain(taken):
     name, paint = "standard input" if taken.plan == "-" else taken.plan, command.Paint(taken.color, sys.stderr)
     zsched = program.find(taken.zsched)
-    look = Look(command.read(taken.plan, program.MAX_BYTES + 1))
-    many = plan_size.warning(look.data)
-    for found in [many, plan_size.workers_warning(look.data)]:
+    data = command.read(taken.plan, program.MAX_BYTES + 1)
+    many = plan_size.warning(data)
+    for found in [many, plan_size.workers_warning(data)]:
         plan_size.warn(TOOL, found, taken.color)
-    status, line = refusal(zsched, look, data=plan_size.with_one_tick(look.data) if many else None)
+    status, line = outcome(zsched, plan_size.with_one_tick(data) if many else data)
     if status == command.REFUSED and taken.all:
-        return _tell_all(name, zsched, look.data, taken.most, paint)
-    return tell(name, look, status, line, paint)
+        return _tell_all(name, zsched, data, taken.most, paint)
+    return tell(name, data, status, line, paint)
 
 
 def _tell_all(name, zsched, data, most, paint):
     """Writes all faults of a plan, which the program runs with a clock of one moment. Returns the status."""
-    from zsched_tools.explain import all_faults
-
-    def ended(text):
-        """The program's status and line on a plan with the faults of this one. One of all alike jobs runs first."""
-        text = plan_size.with_one_tick(text)
-        return fault_of_fewer(zsched, text) or outcome(zsched, text)
     count = 0
-    for line, found in all_faults.all_faults(ended, data, most + 1):
+    refused = all_faults.all_faults(lambda text: outcome(zsched, plan_size.with_one_tick(text)), data, most + 1)
+    for line, found in refused:
         count += 1
         if count <= most:
             sys.stderr.write(f"{paint('bad', line.strip())}\n{place.fault_lines(name, found, paint)}")
@@ -92,49 +82,10 @@ def outcome(zsched, data, seconds=None):
     return status, errors.decode(errors="replace")
 
 
-def fault_of_fewer(zsched, data):
-    """The status and the line of the program on a plan's bytes, by a run with one of each group of alike jobs. None if
-    that has no fault, or if few jobs are alike."""
-    from zsched_tools.explain import all_faults
-    fewer = all_faults.fewer(data)
-    status, line = outcome(zsched, fewer.data) if fewer else (0, "")
-    return (2, fewer.line(line)) if status == 2 else None
-
-
-class Look(threading.Thread):
-    """A thread that scans a plan's bytes. It is dropped if the command ends before it."""
-
-    def __init__(self, data):
-        super().__init__(daemon=True)
-        self.data = data
-        self.plan = None
-
-    def run(self):
-        from zsched_tools import faults
-        self.plan = faults.Plan(self.data)
-        self.plan.look()
-
-
-def refusal(zsched, look, seconds=None, data=None):
-    """Runs the program on a plan's bytes, or on `data` with the same faults, and starts the scan. Returns the status
-    and the line on standard error. After `seconds` subprocess.TimeoutExpired is raised. If it takes longer than
-    PATIENCE, a plan with one of each group of alike jobs runs first."""
-    data = look.data if data is None else data
-    look.start()
-    try:
-        return outcome(zsched, data, seconds or PATIENCE)
-    except subprocess.TimeoutExpired:
-        if seconds:
-            raise
-        return fault_of_fewer(zsched, data) or outcome(zsched, data)
-
-
-def tell(name, look, status, line, paint=lambda _, text: text):
-    """Writes the explanation of the program's status and line. Returns the status."""
+def tell(name, data, status, line, paint=place.unpainted):
+    """Writes the explanation of the program's status and line on a plan's bytes. Returns the status."""
     if status == command.REFUSED:
-        from zsched_tools import faults
-        look.join()
-        found = faults.explained(look.plan, line.strip().removeprefix("zsched: "))
+        found = faults.explained(faults.Plan(data), line.strip().removeprefix("zsched: "))
         said = f"{paint('bad', line.rstrip())}\n" if line.strip() else line
         sys.stderr.write(said + place.fault_lines(name, found, paint))
     elif status:

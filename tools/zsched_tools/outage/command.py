@@ -53,11 +53,15 @@ windows    in order, without overlap. "is" is "down", "slow" or "up" (default). 
            others it is full. Without "to" a window has no end. At all other times the service is up.
 outcomes   how an attempt ends if the service is "up", "down", "slow" or "full" when it begins, as an entry of a plan's
            script. Defaults: 40 ms ok 200, 50 ms err 503, 2000 ms ok 200; full as down.
-budget     a bucket of tokens for retries that all clients of a policy share. It is full at the start.
+budget     a limit of retries that all clients of a policy share; a bucket of tokens is full at the start.
            {"like": "grpc", "tokens": 100, "ok": 0.1}: a failure takes a token, and a success returns "ok" tokens. A
            client retries only if more than half of the tokens remain.
            {"like": "aws", "tokens": 500, "retry": 5, "ok": 1}: a retry takes "retry" tokens, and returns them if it is
            served. A first attempt that is served returns "ok" tokens.
+           {"like": "envoy", "percent": 20, "least": 3}: retries, from when they are allowed until they end, are at most
+           this share of the attempts that run, or "least".
+           {"like": "finagle", "percent": 20, "per_second": 10, "ttl": "10s"}: within "ttl", retries are at most this
+           share of the clients that start, and "per_second" more.
            A client that may not retry fails with the code "err" (0).
 policies   schedules by name, or other texts that zsched-try takes, as "(exponential(100) && recurs(9)) jitter full" and
            "@service.yaml#checkout". rand(LO, HI) is a number drawn once for each client. jitter(BASE, CAP, N) is a
@@ -74,8 +78,10 @@ is simulated as if each of these ended as the 1,000th, until it is served. It is
 certified. The table has the share of the clients that is certified, and below it are the names of some others.
 
 A peak is the most attempts that begin within 100 ms, within a second from any moment, and within a second of the clock.
+Times to success are of all clients: one that is never served counts as endless, and a time that isn't known is a dash.
 Recovery is the time from the end of the last window that is down to the last success of a client whose first attempt
-failed."""
+failed; if one of these is never served, the table has their number. Few attempts and low peaks are also those of
+clients that give up, so the first row says how many were served."""
 FILES = """With -o FOLDER, for each policy: NAME.json (the plan), NAME.report (its certified report) and NAME.csv
 (second, begun, ok, err, running: attempts that began and ended in each second, and those that run when it ends). A plan
 of more than 10,000 jobs or 16,777,216 bytes is written as JSON lines for zsched-population, NAME.jsonl. Standard error
@@ -181,8 +187,8 @@ def _all(given, scenario, zsched):
                 write_files(folder, name, scenario.horizon, found)
             figures[name] = found[-1]
             if scenario.policies[name][0].is_cut and figures[name].gave_up > figures[name].denied:
-                print(f"{TOOL}: policy {name}: clients that gave up came to the end of a schedule that leaves out later "
-                      "waits", file=sys.stderr)
+                print(f"{TOOL}: policy {name}: clients that gave up came to the end of a schedule that leaves out "
+                      "later waits", file=sys.stderr)
     if given.svg:
         command.write(given.svg, "".join(f"{line}\n" for line in draw_curves(scenario, figures)))
     if given.html:
@@ -205,14 +211,18 @@ def _exceeded(given, figures):
     if given.max_peak is not None:
         most, span = given.max_peak
         peak = figures.curve.peak(span)
-        if peak is not None and peak[0] > most:
+        if peak is None:
+            yield "no attempt begins, so --max-peak compares nothing"
+        elif peak[0] > most:
             yield f"{peak[0]:,} attempts in {duration(span)}, from {duration(peak[1])} on, over --max-peak {most:,}"
-    if given.max_recovery is not None and (figures.recovery is None or figures.recovery > given.max_recovery):
-        time = figures.recovery
-        found = "not recovered at the horizon" if time is None else f"recovered in {duration(time)}"
-        yield f"{found}, over --max-recovery {duration(given.max_recovery)}"
-    if given.max_gave_up is not None and figures.gave_up > given.max_gave_up:
-        yield f"{plural(figures.gave_up, 'client')} gave up, over --max-gave-up {given.max_gave_up:,}"
+    if given.max_recovery is not None and not figures.first_failed:
+        yield "no client failed, so --max-recovery compares nothing"
+    elif given.max_recovery is not None and (figures.recovery is None or figures.recovery > given.max_recovery):
+        words = f"{'recovered in ' * (figures.recovery is not None)}{figures.recovery_words()}"
+        yield f"{words}, over --max-recovery {duration(given.max_recovery)}"
+    if given.max_gave_up is not None and figures.gave_up + figures.unfinished > given.max_gave_up:
+        words = f", and {figures.unfinished:,} may later" if figures.unfinished else ""
+        yield f"{plural(figures.gave_up, 'client')} gave up{words}, over --max-gave-up {given.max_gave_up:,}"
 
 
 def work(given):
@@ -266,9 +276,10 @@ def arguments():
     parser.add_argument("--max-peak", type=_peak, metavar="N[/TIME]",
                         help="the most attempts that may begin within a second, or within TIME, as 50/100ms")
     parser.add_argument("--max-recovery", type=duration_argument, metavar="TIME",
-                        help="the longest time from the end of the last window that is down to the last success of a "
-                             "client whose first attempt failed")
-    parser.add_argument("--max-gave-up", type=_count, metavar="N", help="the most clients that may give up")
+                        help="the longest time from the end of the last window that is down until all clients whose "
+                             "first attempt failed were served")
+    parser.add_argument("--max-gave-up", type=_count, metavar="N",
+                        help="the most clients that may give up; one that is unfinished counts")
     passes = command.number(1, 99999, "{} isn't a number of passes from 1 to 99999")
     parser.add_argument("--passes", type=passes, default=MOST_PASSES, metavar="N",
                         help=f"the most passes before the certificate ({MOST_PASSES})")

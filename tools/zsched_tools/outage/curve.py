@@ -56,9 +56,11 @@ class Curve:
         return best
 
 
-def share_of(ordered, percent):
-    """The least of some ordered values such that at least `percent` of 100 are at most that value, or None."""
-    return ordered[-(-len(ordered) * percent // 100) - 1] if ordered else None
+def share_of(ordered, percent, count):
+    """The least of some ordered values such that at least `percent` of 100 are at most that value, of `count` values,
+    of which others are missing; None if so many aren't there."""
+    place = -(-count * percent // 100)
+    return ordered[place - 1] if 0 < place <= len(ordered) else None
 
 
 class Figures:
@@ -69,22 +71,30 @@ class Figures:
         self.passes, self.clients, self.uncertified = passes, len(clients), uncertified
         counts = [client.ending.attempts for client in clients]
         self.attempts, self.greatest = sum(counts), max(counts)
-        self.mean = round(10 * self.attempts / len(clients)) / 10
         self.times = sorted(client.ending.at - start for client, start in zip(clients, scenario.starts)
                             if client.ending.how == "succeeded")
-        self.last_success = max((client.ending.at for client in clients if client.ending.how == "succeeded"),
-                                default=None)
+        self.mean = round(10 * self.attempts / len(self.times)) / 10 if self.times else None
+        self.last_success = _last_success([client.ending for client in clients])
         endings = Counter(client.ending.how for client in clients)
         self.gave_up, self.unfinished = endings["failed"], endings["unfinished"]
         self.denied = sum(scenario.budget is not None and client.ending.how == "failed"
                           and client.ending.value == scenario.budget.code for client in clients)
         self.peaks = [self.curve.peak(span) for _, span, _ in SPANS]
         self.peaks_after = [self.curve.peak(span, scenario.back) for _, span, _ in SPANS if scenario.back is not None]
-        self.recovery = None if scenario.back is None else _recovery(clients, scenario.back)
+        met = [client.ending for client in clients if any(client.lengths[:1]) and not client.are_ok[0]]
+        last = _last_success(met)
+        self.first_failed, self.recovered = len(met), sum(ending.how == "succeeded" for ending in met)
+        self.recovery = None if None in (scenario.back, last) else max(0, last - scenario.back)
+
+    def recovery_words(self):
+        """The time from the end of the outage to the last success, or how many recovered if not all did."""
+        some = f"{self.recovered:,}" if self.recovered else "none"
+        return "no client failed" if not self.first_failed else duration(self.recovery) if (
+            self.recovery is not None) else f"{some} of {self.first_failed:,} recovered"
 
     def shares(self):
-        """The times to success at the shares of the table, and the greatest."""
-        return [share_of(self.times, percent) for percent in [*SHARES, 100]]
+        """The times to success at the shares of the table, and the greatest, of all clients."""
+        return [share_of(self.times, percent, self.clients) for percent in [*SHARES, 100]]
 
     def certified(self):
         """The share of the clients that is certified, in percent. It is 100 only for all."""
@@ -108,16 +118,15 @@ class Figures:
             "peak_after": peaks(self.peaks_after) or None,
             "time_to_success_ms": dict(zip([f"p{percent}" for percent in SHARES] + ["greatest"], self.shares())),
             "succeeded": len(self.times), "last_success_ms": self.last_success, "recovery_ms": self.recovery,
+            "first_failed": self.first_failed, "recovered": self.recovered,
             "gave_up": self.gave_up, "out_of_budget": self.denied, "unfinished": self.unfinished,
             "certified": self.clients - len(self.uncertified), "not_certified": self.uncertified, "passes": self.passes}
 
 
-def _recovery(clients, back):
-    """The time from a moment to the last success of a client whose first attempt failed; None if one is unfinished."""
-    met = [client.ending for client in clients if any(client.lengths[:1]) and not client.are_ok[0]]
-    if any(ending.how == "unfinished" for ending in met):
-        return None
-    return max([ending.at - back for ending in met if ending.how == "succeeded" and ending.at > back], default=0)
+def _last_success(endings):
+    """The moment at which the last of some clients is served; None if one never is, or if there are none."""
+    is_all = all(ending.how == "succeeded" for ending in endings)
+    return max((ending.at for ending in endings), default=None) if is_all else None
 
 
 def to_json(scenario, figures):
@@ -146,8 +155,9 @@ def table(scenario, figures):
     def row(name, cell):
         return [name, *map(cell, columns)]
     yield ["", *figures]
+    yield row("served", lambda it: f"{len(it.times):,} of {it.clients:,}")
     yield row("attempts", lambda it: f"{it.attempts:,}")
-    yield row("  of a client, mean", lambda it: f"{it.mean:,}")
+    yield row("  for each served, mean", lambda it: "-" if it.mean is None else f"{it.mean:,}")
     yield row("  of a client, greatest", lambda it: f"{it.greatest:,}")
     for number, (_, _, words) in enumerate(SPANS):
         yield row(("  " if number else "peak ") + words, lambda it, number=number: _peak(it.peaks[number]))
@@ -159,12 +169,17 @@ def table(scenario, figures):
         yield row(head + name, lambda it, number=number: _time(it.shares()[number]))
     yield row("last success at", lambda it: _time(it.last_success))
     if scenario.back is not None:
-        yield row(f"recovery after {duration(scenario.back)}", lambda it: _time(it.recovery))
-    yield row("gave up", lambda it: f"{it.gave_up:,}")
+        yield row(f"recovery after {duration(scenario.back)}", lambda it: it.recovery_words())
+    yield row("gave up", lambda it: _up_to(it.gave_up, it.unfinished))
     if scenario.budget is not None:
-        yield row("  out of budget", lambda it: f"{it.denied:,}")
+        yield row("  out of budget", lambda it: _up_to(it.denied, it.unfinished))
     yield row("unfinished", lambda it: f"{it.unfinished:,}")
     yield row("certified", lambda it: it.certified())
+
+
+def _up_to(count, more):
+    """A number of clients that may still rise."""
+    return f"{count:,}" + (f" to {count + more:,}" if more else "")
 
 
 def _time(time):

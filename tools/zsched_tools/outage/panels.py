@@ -21,9 +21,9 @@ TITLE = 14
 MOST_COLUMNS = 600
 
 STYLE = """svg{color-scheme:light dark;--ink:#1f2933;--soft:#52606d;--page:#fff;--grid:#d9dee4;--edge:#7b8794;
---ok:#0a8f6a;--err:#d1495b;--run:#6b4fb0;--down:#f9dfe2;--slow:#fbeecb;--full:#e4e9f7}
+--ok:#0a8f6a;--err:#8f1d3f;--run:#6b4fb0;--down:#f9dfe2;--slow:#fbeecb;--full:#e4e9f7}
 @media(prefers-color-scheme:dark){svg{--ink:#e6eaee;--soft:#aab4be;--page:#14181d;--grid:#343c45;--edge:#7b8794;
---ok:#2fb58c;--err:#ef6f80;--run:#b39bea;--down:#45222a;--slow:#433719;--full:#262f4a}}
+--ok:#62dcb6;--err:#cf4a60;--run:#b39bea;--down:#45222a;--slow:#433719;--full:#262f4a}}
 text{font-family:"DejaVu Sans",Verdana,Geneva,sans-serif;fill:var(--ink);font-size:12px}
 .title{font-size:14px;font-weight:bold}.name{font-weight:bold}.soft{fill:var(--soft);font-size:11px}
 .page{fill:var(--page)}.grid{stroke:var(--grid);fill:none}.edge{stroke:var(--edge);fill:none}
@@ -160,7 +160,7 @@ def _panel(layout, number, name):
     (short, _), (height, _) = [peak or (0, 0) for peak in figures.peaks[:2]]
     served, count = len(figures.times), figures.clients
     words = "all served" if served == count else f"{served:,} of {count:,} served"
-    words += f", the last at {duration(figures.last_success)}" if served else ""
+    words += f", the last at {duration(figures.last_success)}" if served == count else ""
     verdict = [f"{figures.attempts:,} attempts", f"peak {height:,} a second, {short:,} in 100 ms", words]
     room = layout.width - MARGIN - layout.left
     called, policy = cut_text(name, LETTERS, room / 3), shown(figures.text, 10 * WIDTH)

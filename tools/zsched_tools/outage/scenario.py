@@ -21,7 +21,8 @@ from zsched_tools.words import duration, listed, shown
 SKETCH = '{"horizon": "3min", "clients": {"number": 1000}, "policies": {"NAME": "SCHEDULE"}}'
 MOST_CLIENTS = 1_000_000
 STATES = ["up", "down", "slow", "full"]
-BUDGETS = {"grpc": ["like", "tokens", "ok", "err"], "aws": ["like", "tokens", "ok", "err", "retry"]}
+BUDGETS = {"grpc": ["like", "tokens", "ok", "err"], "aws": ["like", "tokens", "ok", "err", "retry"],
+           "envoy": ["like", "percent", "least", "err"], "finagle": ["like", "percent", "per_second", "ttl", "err"]}
 UP, DOWN, SLOW, FULL = range(4)
 THOUSAND = 1000
 
@@ -48,12 +49,15 @@ class Window(NamedTuple):
 
 
 class Budget(NamedTuple):
-    """A bucket of tokens that all clients share, in thousandths of a token."""
+    """A limit of retries that all clients share. Of gRPC and AWS `tokens` is a bucket's size, `ok` what a success
+    returns, and `retry` a price, in thousandths of a token. Envoy has a share of `ok` thousandths of a percent, or
+    `retry` retries. Of Finagle `tokens` is a reserve, `ok` what a first attempt adds for `ttl`, `retry` a price."""
     like: str
     tokens: int
     ok: int
     retry: int
     code: int
+    ttl: int = 0
 
 
 @dataclass
@@ -273,14 +277,23 @@ class _Reading:
     def _budget(self, node):
         given = _members(node, "the budget", None, ["like"])
         like = _word(given["like"], '"like"', list(BUDGETS))
-        parts = _members(node, f'a budget like "{like}"', BUDGETS[like], ["tokens"])
+        parts = _members(node, f'a budget like "{like}"', BUDGETS[like], ["tokens"] * ("tokens" in BUDGETS[like]))
         code = _if(parts, "err", _whole, "err", 0)
         if any(code == outcome.value for outcome in self.scenario.outcomes if not outcome.is_ok):
             _refuse(parts.get("err", node), f"{code} is an error code of the service too",
                     'write "err": with another code, for clients whose retries the budget rejects')
         retry = _if(parts, "retry", _thousandths, "retry", (5 if like == "aws" else 1) * THOUSAND)
         ok = _if(parts, "ok", _thousandths, "ok", 100 if like == "grpc" else THOUSAND)
-        self.scenario.budget = Budget(like, _thousandths(parts["tokens"], "tokens"), ok, retry, code)
+        percent = _if(parts, "percent", _thousandths, "percent", 20 * THOUSAND)
+        if "tokens" in parts:
+            found = Budget(like, _thousandths(parts["tokens"], "tokens"), ok, retry, code)
+        elif like == "envoy":
+            found = Budget(like, 0, percent, _if(parts, "least", _whole, "least", 3), code)
+        else:
+            ttl, price = _if(parts, "ttl", _time, "ttl", 10 * THOUSAND), 100 * THOUSAND**2 // percent if percent else 1
+            reserve = _if(parts, "per_second", _whole, "per_second", 10) * price * ttl // THOUSAND
+            found = Budget(like, reserve, THOUSAND if percent else 0, price, code, ttl)
+        self.scenario.budget = found
 
     def _policies(self, node):
         parts = _members(node, "policies", None, [])

@@ -3,9 +3,9 @@ help of zsched-outage says: `Walk` computes how each client ends, and `certifica
 
 A script has at most 1,000 entries, and the last one repeats. A client of more attempts is run so, and only up to a
 moment. It can be certified if all its attempts from the 1,000th on end alike."""
-import random
 from array import array
 
+from zsched_tools.drawn import seeded
 from zsched_tools.outage.scenario import DOWN
 from zsched_tools.outage.world import CUT, DENIED, DONE, GOES_ON, UNDENIED, Run, Walk
 from zsched_tools.program import MOST_ENTRIES, MOST_JOBS, cut_plans, job_text, run_plan
@@ -29,14 +29,14 @@ def name_of(client):
 
 
 def schedules_of(scenario, name, most=None):
-    """The schedule of each client under a policy, whose draws come from the seed and the policy's name. With a budget a
-    schedule also ends at the budget's code. With `most` it may have only so many drawn waits."""
+    """The schedule of each client under a policy. With a budget a schedule also ends at the budget's code. With `most`
+    it may have only so many drawn waits."""
     policy, _ = scenario.policies[name]
-    source = random.Random(f"{scenario.seed} {name}")
     after = f".whileInput(!= {scenario.budget.code})" if scenario.budget else ""
     if not policy.is_drawn:
         return [policy.spelled + after] * len(scenario.starts)
-    return [policy.schedule(source, most) + after for _ in scenario.starts]
+    clients = range(len(scenario.starts))
+    return [policy.schedule(seeded(scenario.seed, client), most) + after for client in clients]
 
 
 def _runs_in(report, kinds, unfinished):

@@ -6,6 +6,7 @@ attempts of such a run up to the first one that is served are those of the true 
 attempts."""
 import heapq
 from array import array
+from collections import deque
 from dataclasses import dataclass
 from typing import NamedTuple
 
@@ -78,7 +79,13 @@ class Bucket:
         given = budget.retry if budget.like == "aws" and not is_first else budget.ok
         self.tokens = min(budget.tokens, self.tokens + given)
 
-    def lets_retry(self, is_wanted):
+    def began(self, is_first, moment):
+        """An attempt begins."""
+
+    def ended(self, is_first):
+        """An attempt ended."""
+
+    def lets_retry(self, is_wanted, moment=0):
         """An attempt failed. Returns whether a retry is allowed. gRPC takes a token for each failure, and then allows a
         retry if more than half of the tokens remain. AWS takes the price of a wanted retry."""
         budget = self.budget
@@ -91,6 +98,59 @@ class Bucket:
         return True
 
 
+class Share(Bucket):
+    """Envoy's retry budget: retries are at most a share of the attempts that run, or a least number. A retry counts
+    from the moment at which it is allowed, before its wait, until it ends."""
+
+    def __init__(self, budget):
+        self.budget = budget
+        self.running = self.retries = 0
+
+    def began(self, is_first, moment):
+        self.running += 1
+
+    def ended(self, is_first):
+        self.running -= 1
+        self.retries -= not is_first
+
+    def succeeded(self, is_first):
+        """Returns nothing to a share."""
+
+    def lets_retry(self, is_wanted, moment=0):
+        most = max(self.budget.retry, self.running * self.budget.ok // 100_000)
+        is_allowed = is_wanted and self.retries < most
+        self.retries += is_allowed
+        return is_allowed
+
+
+class Deposits(Share):
+    """Finagle's retry budget: a client's first attempt adds to a sum, and a retry takes its price, beside a reserve.
+    Both count for `ttl`."""
+
+    def __init__(self, budget):
+        super().__init__(budget)
+        self.queue, self.sum = deque(), 0
+
+    def began(self, is_first, moment):
+        if is_first:
+            self._add(self.budget.ok, moment)
+
+    def lets_retry(self, is_wanted, moment=0):
+        while self.queue and self.queue[0][1] <= moment - self.budget.ttl:
+            self.sum -= self.queue.popleft()[0]
+        is_allowed = is_wanted and self.sum + self.budget.tokens >= self.budget.retry
+        if is_allowed:
+            self._add(-self.budget.retry, moment)
+        return is_allowed
+
+    def _add(self, amount, moment):
+        self.queue.append((amount, moment))
+        self.sum += amount
+
+
+BUDGETS = {"grpc": Bucket, "aws": Bucket, "envoy": Share, "finagle": Deposits}
+
+
 class Walk:
     """All attempts of all clients, in the order of their moments. At one moment ends are before begins, and clients are
     in the order of their numbers. `found` has the kinds of each client's attempts, `endings` its ending (None if its
@@ -99,7 +159,7 @@ class Walk:
     def __init__(self, scenario, runs):
         self.scenario, self.runs = scenario, runs
         self.service = Service(scenario.windows)
-        self.bucket = Bucket(scenario.budget) if scenario.budget else None
+        self.bucket = BUDGETS[scenario.budget.like](scenario.budget) if scenario.budget else None
         # A table from each kind to the first one with the same outcome.
         known = scenario.outcomes
         self.outcomes = bytes(known.index(known[it]) if it < len(known) else it for it in UNDENIED)
@@ -121,12 +181,15 @@ class Walk:
             if following is None:
                 heapq.heappop(queue)
             else:
-                heapq.heapreplace(queue, max(following, event) * count + client)
+                # In a run that isn't the true one yet, an attempt may begin before the one before it ends.
+                heapq.heapreplace(queue, max(following, event | following & 1) * count + client)
 
     def _begin(self, client, moment):
         """An attempt begins: the client's next event, or None."""
         kind = self.service.kind(moment)
         self.found[client].append(kind)
+        if self.bucket:
+            self.bucket.began(len(self.found[client]) == 1, moment)
         end = moment + self.scenario.outcomes[kind].ms
         if end > self.scenario.horizon:
             self._close(client, "unfinished", None, self.scenario.horizon)
@@ -137,13 +200,15 @@ class Walk:
         """An attempt ends: the client's next event, or None."""
         kinds, run = self.found[client], self.runs[client]
         count, outcome = len(kinds), self.scenario.outcomes[kinds[-1]]
+        if self.bucket:
+            self.bucket.ended(count == 1)
         if outcome.is_ok:
             if self.bucket:
                 self.bucket.succeeded(count == 1)
             return self._close(client, "succeeded", outcome.value, moment)
         is_last = count == len(run.begins)
         is_done = is_last and run.tail == DONE
-        if self.bucket and not self.bucket.lets_retry(not is_done) and not is_done:
+        if self.bucket and not self.bucket.lets_retry(not is_done, moment) and not is_done:
             kinds[-1] += DENIED
             return self._close(client, "failed", self.scenario.budget.code, moment)
         if not is_last:

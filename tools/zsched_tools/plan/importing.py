@@ -5,8 +5,11 @@ place in the file that was read. From a log it learns when the service failed an
 answered another policy. A moment between two attempts has the state of the one before. All moments are milliseconds
 from the log's first attempt."""
 import argparse
+import array
 import bisect
 import collections
+import io
+import itertools
 import json
 import pathlib
 import re
@@ -17,6 +20,7 @@ from typing import NamedTuple
 from zsched_tools import call_log, command, faults, program
 from zsched_tools.call_log import Notes
 from zsched_tools.command import Refused
+from zsched_tools.decisions import TOGETHER, Decisions, find_library
 from zsched_tools.drawn import check_schedule
 from zsched_tools.durations import exact_milliseconds
 from zsched_tools.outage.scenario import DEFAULTS, Outcome
@@ -24,8 +28,8 @@ from zsched_tools.place import FaultAt, line_of, told
 from zsched_tools.plan.placed import Written
 from zsched_tools.plan.policy_file import read_toml, read_yaml
 from zsched_tools.plan.policy_plan import Names, is_allowed, plan_of, whole
-from zsched_tools.program import LAST_MOMENT, MOST_ENTRIES, MOST_JOBS, cut_plans, job_text, run_plan
-from zsched_tools.reports import attempts_in, blocks_of
+from zsched_tools.program import LAST_MOMENT, MOST_ENTRIES, MOST_JOBS, job_text
+from zsched_tools.progress import Progress
 from zsched_tools.words import WIDTH, duration, plural, shown
 
 READERS = {".yaml": read_yaml, ".yml": read_yaml, ".toml": read_toml}
@@ -59,8 +63,6 @@ EPILOG = """Exit status: 0; 2 if FILE can't become a plan, with file, line and c
 error, or if there is no program; 3 if reading, writing or the program fails."""
 # An attempt that begins this close to one of its request's own ends as that one did.
 NEAR = 50
-# The number of attempts after the known ones with which a request is run.
-LOOK = 32
 MOST_SHOWN = 5
 # Errors of the request, which say nothing about the service; the others of HTTP's 4xx do.
 _OF_SERVICE = {408, 425, 429}
@@ -75,11 +77,28 @@ class Request(NamedTuple):
     def near(self, place, moment):
         """How the request's own attempt of a moment ended, that of the place if it may be; or the error of the
         request before it; else None."""
-        for begin, outcome in [*self.own[place:place + 1], min(self.own, key=lambda own: abs(own[0] - moment))]:
-            if abs(begin - moment) <= NEAR:
-                return outcome
+        if place < len(self.own) and abs(self.own[place][0] - moment) <= NEAR:
+            return self.own[place][1]
+        begin, outcome = min(self.own, key=lambda own: abs(own[0] - moment))
+        if abs(begin - moment) <= NEAR:
+            return outcome
         before = [outcome for begin, outcome in self.own if begin < moment]
         return before[-1] if before and not tells_state(before[-1]) else None
+
+    def asked(self, service, mode, horizon, script):
+        """Asks for the wait after each attempt under a policy, and adds how it ends to the script. An attempt's moment
+        says how it ends."""
+        moment = self.start
+        while moment <= horizon and len(script) < MOST_ENTRIES:
+            outcome = self.near(len(script), moment) or service.at(moment)
+            script.append(outcome)
+            if outcome.is_ok == (mode == "retry") or moment + outcome.ms > horizon:
+                return
+            moment += outcome.ms
+            wait = yield moment, outcome.value
+            if wait is None:
+                return
+            moment += wait
 
     def job(self, schedule, mode, script):
         entries = ",".join(outcome.entry() for outcome in script)
@@ -91,16 +110,51 @@ def tells_state(outcome):
     return outcome.is_ok or not 400 <= outcome.value < 500 or outcome.value in _OF_SERVICE
 
 
+class Requests:
+    """The requests of a log, with names that a plan allows and lengths of whole milliseconds. `begins` and `outcomes`
+    have their attempts, those of a request together."""
+
+    def __init__(self, log, notes):
+        self.names, self.counts, self.begins, self.outcomes = [], array.array("L"), array.array("q"), []
+        self.last, names, known = 0, Names(notes), {}
+        first = min(log.begins)
+        for name in filter(is_allowed, dict.fromkeys(log.names)):
+            names.take(name)
+        for name, calls in log.requests():
+            if len(calls) > MOST_ENTRIES:
+                raise Refused(f'{log.path}:{log.word}{calls[MOST_ENTRIES].row}: "{shown(name)}" has more than '
+                              f"{MOST_ENTRIES} attempts")
+            for call, after in zip(calls, [*calls[1:], None]):
+                begin = call_log.in_ms(call.begin - first) if log.has_moments else 0
+                length = call.length
+                if length is None:
+                    length = after.begin - call.begin if after else 1_000_000
+                ms, rest = divmod(length, 1_000_000)
+                if rest or not ms:
+                    ms = whole(Fraction(length, 1_000_000), f"{length / 1_000_000:g} ms", call.row, notes)
+                outcome = Outcome(ms, call.is_ok, call.code)
+                self.begins.append(begin)
+                self.outcomes.append(known.setdefault(outcome, outcome))
+                self.last = max(self.last, begin + ms)
+            self.names.append(name if name in names.taken else names.clean(name, calls[0].row))
+            self.counts.append(len(calls))
+
+    def __iter__(self):
+        for name, count, end in zip(self.names, self.counts, itertools.accumulate(self.counts)):
+            own = list(zip(self.begins[end - count:end], self.outcomes[end - count:end]))
+            yield Request(name, own[0][0], own)
+
+
 class Service:
     """What the attempts of a log say of the service."""
 
-    def __init__(self, requests):
-        begun = sorted((begin, outcome) for request in requests for begin, outcome in request.own)
-        told = [(begin, outcome) for begin, outcome in begun if tells_state(outcome)]
-        self.last, self.left_out = begun[-1][0] if begun else 0, len(begun) - len(told)
+    def __init__(self, begins, outcomes):
+        order = sorted(range(len(begins)), key=begins.__getitem__)
+        says = [at for at in order if tells_state(outcomes[at])]
+        self.last, self.left_out = begins[order[-1]], len(order) - len(says)
         balance = collections.Counter()
-        for begin, outcome in told:
-            balance[begin] += 1 if outcome.is_ok else -1
+        for at in says:
+            balance[begins[at]] += 1 if outcomes[at].is_ok else -1
         # The moments of change, and whether the service serves from there on. If as many attempts of one moment fail
         # as succeed, it fails.
         self.changes, self.serves = [], []
@@ -108,9 +162,10 @@ class Service:
             if not self.serves or self.serves[-1] != (balance[begin] > 0):
                 self.changes.append(begin)
                 self.serves.append(balance[begin] > 0)
-        self.gap = max(((after - before, before) for (before, _), (after, _) in zip(begun, begun[1:])), default=(0, 0))
-        self.unlike = sum(self._serves_at(begin) != outcome.is_ok for begin, outcome in told)
-        self.up, self.down = (_usual([outcome for _, outcome in told if outcome.is_ok == is_ok], default)
+        pairs = itertools.pairwise(map(begins.__getitem__, order))
+        self.gap = max(((after - before, before) for before, after in pairs), default=(0, 0))
+        self.unlike = sum(self._serves_at(begins[at]) != outcomes[at].is_ok for at in says)
+        self.up, self.down = (_usual([outcomes[at] for at in says if outcomes[at].is_ok == is_ok], default)
                               for is_ok, default in zip([True, False], DEFAULTS))
 
     def _serves_at(self, moment):
@@ -159,40 +214,6 @@ def _usual(outcomes, default):
         return default
     value = collections.Counter(outcome.value for outcome in outcomes).most_common(1)[0][0]
     return Outcome(sorted(outcome.ms for outcome in outcomes)[len(outcomes) // 2], outcomes[0].is_ok, value)
-
-
-def scripts(service, requests, schedule, mode, horizon, zsched):
-    """The script of each request under a schedule, and the names of those that have more attempts than a script may.
-
-    Each pass runs the open requests with what is known of their scripts and a guess of the rest. An attempt's moment
-    says how it ends, and is right if all attempts before it are."""
-    guess, cut = (service.down, Outcome(1, True, 0)) if mode == "retry" else (service.up, Outcome(1, False, 0))
-    found, too_long, are_open = [[] for _ in requests], [], list(range(len(requests)))
-    while are_open:
-        # What is known, then the request's own attempts, then others.
-        tried = [[*found[at], *(it for _, it in requests[at].own[len(found[at]):] if it.is_ok == guess.is_ok),
-                  *[guess] * LOOK][:MOST_ENTRIES - 1] for at in are_open]
-        jobs = [requests[at].job(schedule, mode, [*script, cut]) for at, script in zip(are_open, tried)]
-        blocks = (block for plan in cut_plans(horizon, jobs)[0] for block in blocks_of(run_plan(zsched, plan)))
-        still = []
-        for at, script, block in zip(are_open, tried, blocks):
-            begins = [int(attempt[0]) for attempt in attempts_in(block)]
-            if _extended(found[at], requests[at], service, script, begins, mode):
-                (too_long if len(found[at]) == MOST_ENTRIES else still).append(at)
-        are_open = still
-    return [script or [service.at(request.start)] for script, request in zip(found, requests)], too_long
-
-
-def _extended(known, request, service, script, begins, mode):
-    """Adds the outcomes of the attempts whose begins are right. Returns whether more may follow."""
-    for place in range(len(known), len(begins)):
-        outcome = request.near(place, begins[place]) or service.at(begins[place])
-        known.append(outcome)
-        if outcome.is_ok == (mode == "retry"):
-            return False
-        if place >= len(script) or outcome != script[place]:
-            return True
-    return False
 
 
 class Source(NamedTuple):
@@ -261,15 +282,17 @@ def _from(given):
     if not is_log and given.schedule is not None:
         raise Refused(f"{given.file}: --schedule is for a log; write the schedule into the file")
     given.data = command.read(given.file) if given.data is None else given.data
-    text, jobs = _of_log(given) if is_log else _of_policies(given, READERS[suffix])
-    data = text.encode()
-    if jobs > MOST_JOBS or len(data) > program.MAX_BYTES:
-        _say(f"the plan has {jobs} jobs and {len(data)} bytes, and one run takes {MOST_JOBS} and "
+    pieces, jobs = _of_log(given) if is_log else _of_policies(given, READERS[suffix])
+    data = io.BytesIO()
+    for piece in pieces:
+        data.write(piece.encode())
+    if jobs > MOST_JOBS or data.tell() > program.MAX_BYTES:
+        _say(f"the plan has {jobs} jobs and {data.tell()} bytes, and one run takes {MOST_JOBS} and "
              f"{program.MAX_BYTES}: docs/SCALE.md runs it as JSON lines")
     if given.out is None:
-        sys.stdout.buffer.write(data)
+        sys.stdout.buffer.write(data.getbuffer())
     else:
-        command.write(given.out, data)
+        command.write(given.out, data.getbuffer())
 
 
 def _say(text):
@@ -283,73 +306,62 @@ def _report(notes, path, line):
 
 
 def _of_log(given):
-    """The plan or the scenario of a log, and how many jobs it has."""
+    """The pieces of the plan or the scenario of a log, and how many jobs it has."""
     check_schedule("zsched-plan", given)
     notes = Notes()
-    log = call_log.Reader(shown(given.file, WIDTH), given.data, given, notes)
-    if given.windows and not log.has_moments:
-        raise Refused(f"{log.path}:1: --begin: no column has the moments of attempts")
-    if not (log.has_moments or log.has_lengths):
-        raise Refused(f"{log.path}:1: --time: no column has the moments or the lengths of attempts")
-    requests = _requests(log, notes)
+    log = call_log.Reader("zsched-plan", shown(given.file, WIDTH), given.data, given, notes)
+    given.data = None
+    if not log.has_moments and (given.windows or not log.has_lengths):
+        what = "moments" if given.windows else "moments or the lengths"
+        option = "--begin" if given.windows else "--begin or --time"
+        raise Refused(f"{log.path}:1: no known column has the {what} of attempts: {option} COLUMN names it")
+    if log.has_moments and not log.has_lengths:
+        _say(f"{log.path}: no column has an end or a length: an attempt lasts until the next of its request")
+    requests = Requests(log, notes)
     if log.has_moments:
         _say(f"{log.path}: {log.told}")
     _report(notes, f"{given.file}:{log.word}" if log.word else given.file, int)
-    last = max((begin + outcome.ms for request in requests for begin, outcome in request.own), default=0)
-    horizon = (last if log.has_moments else 0) + HOUR if given.until is None else given.until
+    horizon = (requests.last if log.has_moments else 0) + HOUR if given.until is None else given.until
     if log.has_moments and not given.by_attempt:
-        service = Service(requests)
+        service = Service(requests.begins, requests.outcomes)
         for line in service.lines():
             _say(f"{log.path}: {line}")
         if given.windows:
-            return service.scenario(requests, given.schedule, horizon), 0
-        scripts = _scripts(given, log, service, requests, horizon)
+            return [service.scenario(requests, given.schedule, horizon)], 0
+        jobs = _jobs(given, log.path, service, requests, horizon)
     else:
         _say(f"{log.path}: a request's k-th attempt is assumed to end as the k-th in the log, whenever it begins; "
              "after the last, as the last" + ("" if log.has_moments else "; no column has the moments of attempts"))
-        scripts = [[outcome for _, outcome in request.own] for request in requests]
-    jobs = [request.job(given.schedule, given.mode, script) for request, script in zip(requests, scripts)]
-    return f'{{"horizon":{horizon},"jobs":[\n' + ",\n".join(jobs) + "\n]}\n", len(jobs)
+        jobs = (it.job(given.schedule, given.mode, [outcome for _, outcome in it.own]) for it in requests)
+    comma = itertools.chain([""], itertools.repeat(",\n"))
+    pieces = itertools.chain([f'{{"horizon":{horizon},"jobs":[\n'], map("".join, zip(comma, jobs)), ["\n]}\n"])
+    return pieces, len(requests.names)
 
 
-def _requests(log, notes):
-    """The requests of a log, with names that a plan allows and lengths of whole milliseconds."""
-    names, found, first = Names(notes), [], log.calls[0].begin if log.calls else 0
-    by_name = call_log.by_request(log.calls)
-    for name in filter(is_allowed, by_name):
-        names.take(name)
-    if log.has_moments and not log.has_lengths:
-        _say(f"{log.path}: no column has an end or a length: an attempt lasts until the next of its request")
-    for name, calls in by_name.items():
-        if len(calls) > MOST_ENTRIES:
-            raise Refused(f'{log.path}:{log.word}{calls[MOST_ENTRIES].row}: "{shown(name)}" has more than '
-                          f"{MOST_ENTRIES} attempts")
-        own = []
-        for place, call in enumerate(calls):
-            begin = call_log.in_ms(call.begin - first) if log.has_moments else 0
-            length = call.length
-            if length is None:
-                length = calls[place + 1].begin - call.begin if place + 1 < len(calls) else 1_000_000
-            ms = Fraction(length, 1_000_000)
-            own.append((begin, Outcome(whole(ms, f"{float(ms):g} ms", call.row, notes), call.is_ok, call.code)))
-        name = name if is_allowed(name) else names.clean(name, calls[0].row)
-        found.append(Request(name, own[0][0], own))
-    return found
-
-
-def _scripts(given, log, service, requests, horizon):
-    """The scripts of the requests under the schedule, by the moments of their attempts."""
-    found, too_long = scripts(service, requests, given.schedule, given.mode, horizon, program.find(given.zsched))
+def _jobs(given, path, service, requests, horizon):
+    """The jobs of the requests under the schedule, by the moments of their attempts."""
+    decisions = Decisions(given.schedule, given.mode, program.find(given.zsched), find_library())
+    too_long, rest, count = [], iter(requests), len(requests.names)
+    progress = Progress("zsched-plan", lambda done: f"decides: {done:,} requests of {count:,}")
+    try:
+        while group := [(request, []) for request in itertools.islice(rest, TOGETHER)]:
+            decisions.run(request.asked(service, given.mode, horizon, script) for request, script in group)
+            for request, script in group:
+                if len(script) == MOST_ENTRIES and script[-1].is_ok == (given.mode == "repeat"):
+                    too_long.append(request.name)
+                yield request.job(given.schedule, given.mode, script or [service.at(request.start)])
+            progress.add(len(group))
+    finally:
+        progress.close()
     if too_long:
-        _say(f"{plural(len(too_long), 'job')}, {requests[too_long[0]].name} the first, have more than {MOST_ENTRIES} "
-             "attempts: after these the last one repeats")
-    _say(f"{log.path}: an attempt within {NEAR} ms of one of its request's own ends as that one, others as the "
-         f"service did at their moment; after {duration(service.last)}, the log's last attempt, as at that one")
-    return found
+        _say(f"{plural(len(too_long), 'job')}, {too_long[0]} the first, have more than {MOST_ENTRIES} attempts: after "
+             "these the last one repeats")
+    _say(f"{path}: an attempt within {NEAR} ms of one of its request's own ends as that one, others as the service did "
+         f"at their moment; after {duration(service.last)}, the log's last attempt, as at that one")
 
 
 def _of_policies(given, read):
-    """The plan of a policy file, and how many jobs it has."""
+    """The pieces of the plan of a policy file, and how many jobs it has."""
     source, notes = _source(given), Notes()
     try:
         root = plan_of(read(source.text), HOUR if given.until is None else given.until, notes)
@@ -361,7 +373,7 @@ def _of_policies(given, read):
     if count <= MOST_JOBS and len(plan.text.encode()) <= program.MAX_BYTES:
         check(source, plan, given.zsched, count)
     _report(notes, given.file, source.line)
-    return plan.text, count
+    return [plan.text], count
 
 
 def check(source, plan, zsched, jobs=1):

@@ -11,6 +11,7 @@ from zsched_tools.words import shown
 
 LONGEST_NAME = 64
 DEFAULTS = ("mode", "start", "script")
+_ALLOWED = re.compile(rf"[A-Za-z0-9._-]{{1,{LONGEST_NAME}}}")
 _ATTEMPT = re.compile(r"\s*(.+?)\s+(ok|err)\s+([0-9]{1,19})(?:\s*[x×]\s*([0-9]{1,4}))?\s*")
 _AN_ATTEMPT = "write 40 err 503 or 35ms ok 200, and x3 for three"
 
@@ -51,7 +52,7 @@ class Names:
 
 def is_allowed(name):
     """Whether a plan allows a name."""
-    return re.fullmatch(rf"[A-Za-z0-9._-]{{1,{LONGEST_NAME}}}", name) is not None
+    return _ALLOWED.fullmatch(name) is not None
 
 
 def duration(value, notes=None):
@@ -148,7 +149,7 @@ def _policy_jobs(policies):
     """A job for each name of the table `policies`, whose values are schedules."""
     if not isinstance(policies.data, dict):
         raise FaultAt(Cause(policies.at, 1, "policies must be a table of names and schedules",
-                          "write a line for each, as payments: recurs(3)"))
+                            "write a line for each, as payments: recurs(3)"))
     return [Value({key("name", name.at): Value(str(name), name.at, name.at),
                    key("schedule", name.at): schedule}, name.at)
             for name, schedule in policies.data.items()]

@@ -5,8 +5,6 @@ import bisect
 import http.server
 import itertools
 import json
-import os
-import pathlib
 import re
 import resource
 import signal
@@ -20,8 +18,6 @@ ADDRESS = "127.0.0.1"
 PORT = 8642
 SECONDS = 10
 MEMORY = 1 << 30
-# A program that ./run built unproved contains this. It maps terabytes, and limits its memory itself.
-SANITIZER = b"AddressSanitizer"
 SMALLER = "shorten the horizon, or lengthen the waits"
 LONGEST_BODY = program.MAX_BYTES
 LONGEST_REPORT = 8_000_000
@@ -48,11 +44,8 @@ def run(zsched, plan, seconds):
     """Runs the program on a plan: its status, the report's beginning, the report's size, and its standard error."""
     with tempfile.TemporaryFile() as report:
         words = {"stdin": subprocess.PIPE, "stdout": report, "stderr": subprocess.PIPE}
-        is_sanitized = SANITIZER in pathlib.Path(zsched).read_bytes()
-        more = {"ASAN_OPTIONS": f"hard_rss_limit_mb={MEMORY >> 20}"} if is_sanitized else {}
-        with subprocess.Popen([zsched], env={**os.environ, **more}, **words) as child:
-            if not is_sanitized:
-                resource.prlimit(child.pid, resource.RLIMIT_AS, (MEMORY, MEMORY))
+        with subprocess.Popen([zsched], **words) as child:
+            resource.prlimit(child.pid, resource.RLIMIT_AS, (MEMORY, MEMORY))
             try:
                 _, errors = child.communicate(plan, timeout=seconds)
             except subprocess.TimeoutExpired:
@@ -64,16 +57,18 @@ def run(zsched, plan, seconds):
 
 
 def every_input(bounds, plan, attempt):
-    """The bounds by this zsched-bounds of each schedule of a plan, with these durations of attempts, if the plan has no
-    more schedules than the page has policies. If the program fails, the report is shown without bounds."""
+    """The bounds by this zsched-bounds of each schedule of a plan, with these durations of attempts, and whether the
+    program was proved, if the plan has no more schedules than the page has policies. If the program fails, the report
+    is shown without bounds."""
     schedules = list({job["schedule"] for job in json.loads(plan)["jobs"]})
     if bounds is None or len(schedules) > MOST_POLICIES:
-        return {}
+        return {"bounds": {}}
     try:
         found = bounding.run(bounds, schedules, SECONDS, attempt)
-        return {schedule: it.line() for schedule, it in zip(schedules, found)}
+        return {"bounds": {schedule: it.line() for schedule, it in zip(schedules, found)},
+                "proved": program.is_proved(bounds)}
     except (OSError, subprocess.TimeoutExpired):
-        return {}
+        return {"bounds": {}}
 
 
 def answer(zsched, plan, seconds, bounds=None, attempt=None):
@@ -97,7 +92,7 @@ def answer(zsched, plan, seconds, bounds=None, attempt=None):
         first = said.partition("\n")[0] or f"status {status} and no report"
         cause = f"{first} ({MEMORY >> 20} MB are given to it)"
         return {"fault": {"field": "until", "cause": cause, "help": SMALLER}}
-    return {**shown(report, size), "bounds": every_input(bounds, plan, attempt)}
+    return {**shown(report, size), **every_input(bounds, plan, attempt)}
 
 
 def placed(plan, said):

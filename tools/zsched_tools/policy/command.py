@@ -4,14 +4,19 @@ import itertools
 import json
 import sys
 
-from zsched_tools import bounding, command, starting
-from zsched_tools.command import NO, REFUSED, Refused
+from zsched_tools import bounding, command, program, starting
+from zsched_tools.command import NO, REFUSED, Paint, Refused
+from zsched_tools.drawn import Policy
+from zsched_tools.place import FaultAt, tell
 from zsched_tools.policy import libraries, python_source, reading, services
+from zsched_tools.policy.explaining import explained
 from zsched_tools.policy.reading import Wrong
-from zsched_tools.policy.spelling import spelled
+from zsched_tools.policy.spelling import drawn, spelled
+from zsched_tools.policy.telling import canonical, told_apart
+from zsched_tools.program import LAST_MOMENT
 from zsched_tools.reports import attempts_in, blocks_of
 from zsched_tools.trials import tried_in
-from zsched_tools.trying.command import add_attempts, bounds_of_all, of_all, tried
+from zsched_tools.trying.command import add_attempts, add_programs, attempt_of, bounds_of_all, entries_of, of_all, tried
 from zsched_tools.words import duration, listed, plural, shown
 
 TOOL = "zsched-policy"
@@ -20,9 +25,10 @@ DESCRIPTION = """Finds the retry policies in the config of another program, and 
   zsched-policy import service.yaml
   zsched-try @service.yaml#checkout
 
-Says what differs between two policies.
+Says what differs between two policies, and what one does.
 
-  zsched-policy diff @service.yaml#checkout '(exponential(100) && recurs(5))'"""
+  zsched-policy diff @service.yaml#checkout '(exponential(100) && recurs(5))'
+  zsched-policy explain '(exponential(100) && recurs(5))'"""
 IMPORT = """Finds the retry policies in FILE, and prints a line of JSON for each.
 
   grpc          a gRPC service config (JSON): methodConfig with a retryPolicy
@@ -30,19 +36,24 @@ IMPORT = """Finds the retry policies in FILE, and prints a line of JSON for each
   istio         the retries of a VirtualService (YAML)
   temporal      a RetryPolicy, or the options of an activity (JSON, YAML)
   kubernetes    a Job or a CronJob (YAML)
-  resilience4j  resilience4j.retry (YAML, properties)
+  resilience4j  resilience4j.retry (YAML, properties), or calls of IntervalFunction (Java, Kotlin; never run)
   spring        settings of Spring Retry, or Spring Boot's retries (YAML, properties)
+  gateway       Retry filters of Spring Cloud Gateway (YAML, properties)
   polly         RetryStrategyOptions of Polly 8 (JSON)
-  aws           an AWS config (INI), or AWS_MAX_ATTEMPTS and AWS_RETRY_MODE (lines of NAME=VALUE)
+  aws           an AWS config (INI), AWS_MAX_ATTEMPTS and AWS_RETRY_MODE (lines of NAME=VALUE), or botocore's
+                Config(retries=..) (Python source)
   tenacity      @retry, Retrying and AsyncRetrying (Python source, which is never run)
   backoff       @on_exception and @on_predicate (Python source)
 
-The end of the file's name says what it is (.json, .yaml, .yml, .properties, .py, .ini, .env), or else its text does.
+The end of the file's name says what it is (.json, .yaml, .yml, .properties, .py, .java, .kt, .ini, .env), or else its
+text does.
 A line has these keys:
 
   name, format        of the policy
   schedule            its waits, with the number of retries
   attempt_timeout_ms  the limit of one attempt, or null
+  deadline_ms         the limit of the whole call, or null
+  drawn               the policy with its random waits, as zsched-try takes it, or null
   retries_on          the errors that are retried, if the config names them
   jitter              null, or the range of random waits; the schedule has the greatest value of each
   left_out            each setting that isn't carried over
@@ -65,11 +76,32 @@ every input, which zsched-bounds proves.
   here B makes 1 attempt fewer, waits 100 ms more, has a longest wait that is 50 ms longer and ends 60 ms later
   the first difference: attempt 2 begins at 40 ms, and in B at 90 ms
   for every input B makes fewer attempts than A
-  the limits of B for every input: 1 attempt fewer, a wait that is 50 ms longer and 100 ms more of waits in all
+  the limits of B for every input: at least 3 attempts (A: at least 4 attempts), 1 attempt fewer, a wait that is 50 ms
+  longer and 100 ms more of waits in all
+
+If neither the attempts nor the limits differ, some thousand short histories are searched for one that tells A and B
+apart: inputs and durations at and beside each number of both texts.
 
 A and B are schedules, or texts that zsched-try takes, as @FILE#NAME and `spaced(1000) jitter full`."""
-DIFF_EPILOG = """Exit status: 0 if nothing differs; 1 if something does; 2 if a policy or an option is wrong, or if
-there is no zsched; 3 if a program or writing fails."""
+DIFF_EPILOG = """Exit status: 0 if the canonical spelling, jitter and limit of an attempt are equal, and so is what both
+leave out; 1 if not; 2 if a policy or an option is wrong, or if there is no zsched; 3 if a program or writing fails."""
+
+EXPLAIN = """Says what a policy does, a line for each part, and which parts never act.
+
+  $ zsched-policy explain '(exponential(100) && recurs(5)).whileOutput(_1 < 10000)'
+  (exponential(100, 2) && recurs(5)).whileOutput(_1 < 10000)
+  for every input: 6 attempts, always; waits of at most 1.6 s, 3.1 s in all
+
+  .whileOutput(_1 < 10000)  as long as the wait of exponential(100, 2) is less than 10 s: never acts
+    &&                      both, at the later moment, until one is done
+      exponential(100, 2)   again after 100 ms, 200 ms, 400 ms ..
+      recurs(5)             again at once, 5 times
+
+A part never acts if it changes no moment and no end, whatever the inputs and durations. That follows from limits that
+zsched-bounds proves: here six attempts are both the least with the test and the most without it. Without zsched-bounds
+the parts alone are explained."""
+EXPLAIN_EPILOG = """Exit status: 0; 2 if the policy or an option is wrong, or if there is no zsched; 3 if a program or
+writing fails."""
 
 
 def _add_diff(forms):
@@ -123,12 +155,24 @@ def _always(scope, one, other):
     if other.most is not None and other.most < one.least or one.most is not None and one.most < other.least:
         yield f"{scope} B makes {'fewer' if other.least < one.least else 'more'} attempts than A"
     waits, totals = zip(*(it.limits() if it.has_all_waits() else (None, None) for it in (one, other)))
-    limits = [_limit(one.most, other.most, "attempts", "{} more", "{} fewer", "attempt"),
+    least = ["no end" if it.is_endless else f"at least {plural(it.least, 'attempt')}" for it in (one, other)]
+    limits = ["{1} (A: {0})".format(*least) if least[0] != least[1] else "",
+              _limit(one.most, other.most, "attempts", "{} more", "{} fewer", "attempt"),
               _limit(*waits, "each wait", "a wait that is {} longer", "a wait that is {} shorter"),
               _limit(*totals, "all waits", "{} more of waits in all", "{} less of waits in all"),
               _limit(one.run, other.run, "the whole call", "an end that is {} later", "an end that is {} earlier")]
     if any(limits):
         yield f"the limits of B {scope}: {listed(list(filter(None, limits)))}"
+
+
+def _settings(one, other):
+    """How policies differ beside their schedules, in lines."""
+    for what, limits in [("an attempt", (one.timeout, other.timeout)), ("the call", (one.deadline, other.deadline))]:
+        if limits[0] != limits[1]:
+            words = [duration(it) if it else "none" for it in limits]
+            yield f"the limit of {what}: {words[0]} in A, {words[1]} in B"
+    for name, mine, others in [("A", one, other), ("B", other, one)]:
+        yield from (f"only {name} leaves out {what}" for what in mine.left_out if what not in others.left_out)
 
 
 def _diff(given):
@@ -138,13 +182,33 @@ def _diff(given):
         return REFUSED
     found, bounds = list(tried_in(report)), bounds_of_all(given)
     for name, policy, result, bound in zip("AB", given.read, found, bounds):
-        every = f"\n   {of_all(given, policy)}: {bound.line()}" if bound else ""
+        every = f"\n   {bounding.mark(bound)}{of_all(given, policy)}: {bound.line()}" if bound else ""
         print(f"{name}  {policy.text}\n   {result.line()}{every}")
     scope = of_all(given, *given.read)
     lines = [*filter(None, [_here(*found)]), *itertools.islice(_first(blocks_of(report)), 1),
-             *([] if None in bounds else _always(scope, *bounds))]
+             *([] if None in bounds else map(bounding.mark(*bounds).__add__, _always(scope, *bounds)))]
+    if not lines and len(set(map(canonical, given.read))) > 1:
+        first, limits = entries_of(given, given.read[0])[0], attempt_of(given, given.read[0]) or (1, LAST_MOMENT)
+        lines = told_apart(program.find(given.zsched), given.read, given.mode, first, limits, given.seed)
+    lines += _settings(*given.read)
     print("\n".join(lines) or "no difference")
     return NO if lines else 0
+
+
+def _explain(given):
+    """Prints a policy in words; returns the status."""
+    zsched, policy = program.find(given.zsched), None
+    try:
+        policy = Policy(given.policy, zsched)
+        policy.check(zsched)
+        policy.show(TOOL)
+        for line in explained(policy, program.find_bounds(given.bounds)):
+            print(line)
+    except FaultAt as fault:
+        tell(f"{TOOL}: byte {len(given.policy[:fault.cause.at].encode())}", given.policy, fault.cause,
+             Paint(given.color, sys.stderr))
+        return REFUSED
+    return 0
 
 
 def _found(path):
@@ -152,6 +216,8 @@ def _found(path):
     kind = reading.kind_of(path, text)
     if kind == "python":
         return sorted(python_source.find(text), key=lambda it: it.line)
+    if kind == "java":
+        return list(libraries.find_java(text))
     if kind == "ini":
         return list(services.find_aws(reading.read_ini(text)))
     reader = {"json": reading.read_json, "properties": reading.read_properties}.get(kind)
@@ -182,10 +248,10 @@ def names_of(policies):
 
 
 def line_of_file(path, name):
-    """The line of the policy of a file with this name; without a name the file has one policy."""
+    """The line of the policy of a file with this name; without a name the file has one policy, with any names."""
     policies = policies_of(path)
     chosen = [it for it in policies if name in (None, it.name)]
-    if len(chosen) != 1:
+    if not chosen or any(it.read is not chosen[0].read for it in chosen):
         what = "more than one policy, write @FILE#NAME" if chosen else f"no policy {shown(name or '')}".rstrip()
         raise Refused(f"{path}: {what}; {names_of(policies)}")
     return _line_at(path, chosen[0])
@@ -206,6 +272,7 @@ def line_of(found):
     schedule, left_out = spelled(policy.waits, policy.retries, policy.limit)
     return {"name": found.name, "format": found.form, "schedule": schedule,
             "attempt_timeout_ms": None if policy.attempt_timeout is None else max(1, int(policy.attempt_timeout)),
+            "deadline_ms": int(policy.deadline) if policy.deadline else None, "drawn": drawn(policy, schedule),
             "retries_on": list(policy.retries_on), "jitter": policy.jitter, "left_out": [*policy.left_out, *left_out]}
 
 
@@ -237,6 +304,10 @@ def _arguments():
     given.add_argument("--plain", action="store_true", help="only the schedule of each policy")
     given.set_defaults(work=_import)
     _add_diff(forms)
+    given = forms.add_parser("explain", description=EXPLAIN, epilog=EXPLAIN_EPILOG, help="a policy in words")
+    given.add_argument("policy", metavar="POLICY", help="a schedule, or a text that zsched-try takes")
+    add_programs(given)
+    given.set_defaults(work=_explain)
     return parser
 
 

@@ -16,7 +16,8 @@ _SIGNED = re.compile(rf"[+-]?{_NUMBER}(?:[eE][+-]?[0-9]{{1,2}})?")
 
 class Policy(NamedTuple):
     """A policy: its waits, the number of retries (None: without an end), what isn't carried over, the time limit of an
-    attempt in milliseconds, the errors that are retried, the range of random waits, and the time limit of all waits."""
+    attempt in milliseconds, the errors that are retried, the range of random waits, the time limit of all waits, that
+    of the whole call, and how it draws if the range doesn't say so: Draws, or a text of the tools."""
     waits: object
     retries: int | None
     left_out: list
@@ -24,6 +25,8 @@ class Policy(NamedTuple):
     retries_on: tuple = ()
     jitter: dict | None = None
     limit: int | None = None
+    deadline: Fraction | None = None
+    draws: object = None
 
 
 class Found(NamedTuple):

@@ -1,26 +1,30 @@
-"""Policies in the configuration of libraries: Resilience4j, Spring and Polly 8.
+"""Policies in the configuration of libraries: Resilience4j, Spring, Spring Cloud Gateway and Polly 8.
 
 docs/POLICIES.md has their defaults. No source was at hand: all this is from memory of it and of its documents.
 
-- Resilience4j 2 (IntervalFunction): exponential: each wait is the one before it times the multiplier (1.5), as a
+- Resilience4j 2.2 (IntervalFunction): exponential: each wait is the one before it times the multiplier (1.5), as a
   double, cut to whole milliseconds; then at most exponentialMaxWaitDuration. Randomized: drawn from wait * (1 - f) to
   wait * (1 + f), f 0.5, and cut; the cap comes last. A number without a unit is in milliseconds.
-- Spring Retry 2 (ExponentialBackOffPolicy): each wait is the one before it times the multiplier, as a double, cut to
+- Spring Retry 2.0 (ExponentialBackOffPolicy): each wait is the one before it times the multiplier, as a double, cut to
   whole milliseconds, until one is above the cap, which all later ones are. Random: times 1 to the multiplier, at most
   the cap. max-retries (Spring 7) counts retries.
-- Polly 8 (RetryHelper): UseJitter: 25 % above or below; for Exponential decorrelated, by a formula whose greatest
-  values are computed here. 2147483647 retries are no limit. The options of .NET's standard HTTP handler have other
-  defaults."""
+- Spring Cloud Gateway 4.1 (RetryGatewayFilterFactory): each wait is the one before it times the factor, at most
+  maxBackoff; without backoff there are no waits.
+- Polly 8.4 (RetryHelper): UseJitter: 25 % above or below, then at most MaxDelay; for Exponential decorrelated: the n-th
+  wait, from 0, is (f(n + u) - f of the wait before) / 1.4 of the delay, with f(t) = 2^t * tanh(sqrt(4t)) and u drawn
+  from 0 to 1. 2147483647 retries are no limit. The options of .NET's standard HTTP handler have other defaults."""
 import functools
 import itertools
 import math
+import re
 from fractions import Fraction
 
 from zsched_tools.policy.fields import (DAY, Fields, Found, Policy, default, duration, keys_of, number, part, plain,
-                                        texts, truth, whole)
+                                        text_of, texts, truth, whole)
 from zsched_tools.policy.reading import Node, Wrong, unfolded
 from zsched_tools.policy.services import label, tables
-from zsched_tools.policy.spelling import GREATEST, Waits, constant, exponential, growing, linear
+from zsched_tools.policy.spelling import (GREATEST, Draws, Waits, constant, decorrelated, exponential, growing,
+                                          linear)
 
 # The defaults of Spring Boot's keys: attempts, first wait, multiplier, cap.
 SPRING = {"spring.rabbitmq": (3, 1000, 1, 10_000), "spring.kafka": (3, 1000, 0, 30_000),
@@ -44,6 +48,10 @@ def find(document):
     for path in tables(root, (("", root),)):
         node, keys = path[-1][1], keys_of(path[-1][1])
         names, around = ".".join(str(key) for key, _ in path[1:]), path[-2][1] if len(path) > 1 else Node({}, 1)
+        filters = part(node, "filters", "defaultfilters")
+        for it in filters.data if filters is not None and isinstance(filters.data, list) else ():
+            if (text_of(part(it, "name")) or str(text_of(it)).partition("=")[0].strip()) == "Retry":
+                yield Found("gateway", text_of(part(node, "id")) or "gateway", it.line, functools.partial(_gateway, it))
         if "maxretryattempts" in keys or (keys & {"backofftype", "usejitter"} and keys & {"delay", "maxdelay"}):
             yield Found("polly", label(path, "polly"), node.line, functools.partial(_polly, node, around))
         elif _is_spring(keys, keys_of(part(node, "backoff")), names.split(".")[-1]) and not (
@@ -71,9 +79,17 @@ def _resilience(node, configs):
         jitter = {"kind": "proportional", "percent": _short(share * 100)}
     if factor < 1 or share >= 1:
         raise Wrong(node.line, "exponentialBackoffMultiplier must be at least 1, and randomizedWaitFactor below 1")
-    waits = cut(int(first), factor, None if most is None else int(most), lambda wait: math.ceil(wait * (1 + share)))
-    on = fields.get(texts, "retryexceptions", default=[])
-    return Policy(waits, retries, fields.left_out(), None, on, jitter)
+    waits = functools.partial(cut, int(first), factor, after=lambda wait: math.ceil(wait * (1 + share)))
+    on, most = fields.get(texts, "retryexceptions", default=[]), None if most is None else int(most)
+    draws = share and most is not None and _capped(waits, (1 - share) / (1 + share), most, retries)
+    return Policy(waits(most), retries, fields.left_out(), None, on, jitter, draws=draws or None)
+
+
+def _capped(waits, least, most, retries):
+    """The Draws of waits, which get the cap that the drawn ones have; None if no wait reaches it."""
+    higher = waits(math.ceil(most / least))
+    last = retries if retries is not None else higher.steady or 0
+    return Draws(higher, least, most) if any(higher.at(number) > most for number in (1, last)) else None
 
 
 def _short(value):
@@ -114,7 +130,7 @@ def _spring(node, names):
     first = int(fields.get(duration, *FIRST, default=first, unit=1))
     most = int(fields.get(duration, *MOST, default=most, unit=1))
     factor = float(fields.get(number, *FACTOR, default=factor))
-    is_random, jitter = fields.get(truth, "random", "randombackoff"), None
+    is_random, jitter, draws = fields.get(truth, "random", "randombackoff"), None, None
     if str(getattr(fields.found.get("enabled"), "data", "")).lower() == "true":
         fields.take("enabled")
     on = fields.get(texts, "retryfor", "include", "value", default=[])
@@ -125,11 +141,73 @@ def _spring(node, names):
         if is_random:
             jitter = {"kind": "added", "percent": _short(Fraction(str(factor)) * 100 - 100)}
             waits = Waits(lambda number, at=waits.at: min(int(at(number) * factor), most), waits.steady)
+            draws = _capped(functools.partial(cut, first, factor, after=lambda wait: int(wait * factor)),
+                            1 / Fraction(str(factor)), most, retries)
     elif most > first and not known:
         waits, jitter = constant(most), {"kind": "added", "up_to_ms": most - first}
     else:
         waits, left_out = constant(first), left_out + (["random"] if is_random else [])
-    return Policy(waits, retries, left_out, None, on, jitter)
+    return Policy(waits, retries, left_out, None, on, jitter, draws=draws)
+
+
+def _gateway(node):
+    """A filter: a table of its name and arguments, or their text, as Retry=3,BAD_GATEWAY,GET,10ms,50ms,2,false."""
+    names = ["retries", "statuses", "methods", "firstBackoff", "maxBackoff", "factor", "basedOnPreviousValue"]
+    given = zip(names, (text_of(node) or "").partition("=")[2].split(","))
+    short = {name: Node(value.strip(), node.line) for name, value in given if value.strip()}
+    args = part(node, "args") if node.is_table() else Node(short, node.line)
+    args = args if args is not None and args.is_table() else Node({}, node.line)
+    back_off = part(args, "backoff")
+    fields = Fields(args, *([back_off] if back_off is not None else []))
+    for name in ["backoff", "basedonpreviousvalue"]:
+        fields.take(name)
+    has_waits, retries = back_off is not None or "firstbackoff" in fields.found, fields.get(whole, "retries", default=3)
+    first, most = (fields.get(duration, name, default=usual, unit=1)
+                   for name, usual in [("firstbackoff", 5), ("maxbackoff", None)])
+    factor = fields.get(whole, "factor", default=2, least=1)
+    on = [*fields.get(texts, "statuses", default=[]), *fields.get(texts, "series", default=["SERVER_ERROR"])]
+    return Policy(exponential(first, factor, most) if has_waits else constant(0), retries, fields.left_out(), None, on)
+
+
+def find_java(text):
+    """The calls of Resilience4j's IntervalFunction in a Java or Kotlin source, each with the maxAttempts beside it."""
+    text = re.sub(r"//[^\n]*|/\*.*?\*/", lambda it: re.sub(r"[^\n]", " ", it[0]), text, flags=re.S)
+    for found in re.finditer(r"\bIntervalFunction\s*\.\s*(of\w*)\s*\(((?:[^()]|\([^()]*\))*)\)", text):
+        begin = max(text.rfind(mark, 0, found.start()) for mark in ";{}") + 1
+        statement = re.compile(r"[^;{}]*").match(text, begin)[0]
+        name = re.search(r"(\w+)\s*=[^=]", statement[:found.start() - begin])
+        line = text.count("\n", 0, found.start()) + 1
+        yield Found("resilience4j", name[1] if name else found[1], line, functools.partial(
+            _interval_function, found[1], found[2].split(",") if found[2].strip() else [], statement, line))
+
+
+def _interval_function(call, arguments, statement, line):
+    values = [_java(it.strip(), line) for it in arguments]
+    wait, factor, most, share = ("waitDuration", "exponentialBackoffMultiplier", "exponentialMaxWaitDuration",
+                                 "randomizedWaitFactor")
+    names = {"of": [wait], "ofDefaults": [], "ofRandomized": [wait, share],
+             "ofExponentialBackoff": [wait, factor, most],
+             "ofExponentialRandomBackoff": [wait, factor, share, most]}.get(call, [])
+    if len(names) == 4 and len(values) == 3 and not values[2][1]:
+        names = [wait, factor, most]
+    if len(values) > len(names) or call[2:] not in ("", "Defaults") and not names:
+        raise Wrong(line, f"IntervalFunction.{call} with {len(arguments)} arguments can't become a schedule")
+    found = re.search(r"\bmaxAttempts\s*\(\s*([0-9]+)\s*\)", statement)
+    table = dict(zip(names, [text for text, _ in values])) | ({"maxAttempts": found[1]} if found else {})
+    table |= {"enableExponentialBackoff": "true"} if "Exponential" in call else {}
+    table |= {"enableRandomizedWait": "true"} if "Random" in call else {}
+    policy = _resilience(Node({name: Node(text, line) for name, text in table.items()}, line), None)
+    return policy if found else policy._replace(left_out=["maxAttempts: not beside the call, so its default"])
+
+
+def _java(text, line):
+    """A number or a Duration of Java as a setting's text, and whether it is a double."""
+    if found := re.fullmatch(r"(?:java\.time\.)?Duration\.of(Millis|Seconds|Minutes|Hours)\(([0-9_]+)[lL]?\)", text):
+        unit = {"Millis": "ms", "Seconds": "s", "Minutes": "min", "Hours": "h"}[found[1]]
+        return found[2].replace("_", "") + unit, False
+    if found := re.fullmatch(r"([0-9_]*\.?[0-9_]+)([dDfFlL]?)", text):
+        return found[1].replace("_", ""), "." in text or found[2] in "dDfF" and found[2] != ""
+    raise Wrong(line, f"{text} is not a number that can be known without running the source")
 
 
 def _polly(node, around):
@@ -148,25 +226,21 @@ def _polly(node, around):
     is_random = fields.get(truth, "usejitter", default=is_http)
     left_out, timeout = fields.left_out(), None
     if is_http:
-        timeout = part(part(around, "attempttimeout"), "timeout")
-        others = ("totalrequesttimeout", "circuitbreaker", "ratelimiter")
-        left_out += [name for name in around.data if plain(name) in others]
-    jitter = {"kind": "proportional", "percent": 25} if is_random else None
-    greatest = first * Fraction(5, 4) if is_random else first
+        left_out += [name for name in around.data if plain(name) in ("circuitbreaker", "ratelimiter")]
+    timeout, deadline = (part(part(around, name), "timeout") for name in ["attempttimeout", "totalrequesttimeout"])
+    timeout, deadline = (it and duration(it, DAY) for it in (timeout, deadline))
+    jitter, draws = {"kind": "proportional", "percent": 25} if is_random else None, None
+    greatest, retries = first * Fraction(5, 4) if is_random else first, None if retries == 2**31 - 1 else retries
     if word == "exponential" and is_random and first:
-        waits, jitter = growing(_decorrelated(float(first)), most), {"kind": "decorrelated"}
+        waits, jitter = growing((decorrelated(float(first), it + 1, it - 1) if it < 900 else GREATEST
+                                 for it in itertools.count()), most), {"kind": "decorrelated"}
+        if retries and retries <= 240 and first.denominator == 1:
+            draws = f"decorrelated({int(first)}, {retries})"
+            draws = draws if most is None else f"(({draws} || spaced({int(most)})) && recurs({retries}))"
     elif word == "exponential":
         waits = exponential(first, 2, most)
     else:
-        waits = linear(greatest, greatest if word == "linear" else 0, most)
-    retries, timeout = None if retries == 2**31 - 1 else retries, timeout and duration(timeout, DAY)
-    return Policy(waits, retries, left_out, timeout, (), jitter)
-
-
-def _decorrelated(first):
-    """The greatest value of each of Polly's decorrelated waits: f(n) - f(n - 2) divided by 1.4, with f(t) = 2^t *
-    tanh(sqrt(4t)), which is 0 before 0."""
-    def value(at):
-        return 2.0**at * math.tanh(math.sqrt(4 * at)) if at > 0 else 0.0
-    for index in itertools.count(1):
-        yield (value(index) - value(index - 2)) / 1.4 * first if index < 900 else GREATEST
+        waits = functools.partial(linear, greatest, greatest if word == "linear" else 0)
+        draws = is_random and most is not None and _capped(waits, Fraction(3, 5), int(most), retries) or None
+        waits = waits(most)
+    return Policy(waits, retries, left_out, timeout, (), jitter, None, deadline, draws)

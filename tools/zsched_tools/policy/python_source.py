@@ -1,8 +1,9 @@
-"""Policies in Python source: the decorators and classes of tenacity, and the decorators of backoff.
+"""Policies in Python source: the decorators and classes of tenacity, the decorators of backoff, and botocore's Config.
 
-tenacity 8 (source of `wait.py`, as pip has it): wait_exponential waits multiplier * exp_base^(n-1) s, at least min, at
-most max. backoff 2 (from memory, and docs/POLICIES.md): expo waits factor * base^(n-1) s, at most max_value; fibo 1, 1,
-2, 3, 5 .. s. Both count the first attempt in stop_after_attempt and max_tries, and their limits of time from its begin.
+tenacity 8.2 (source of `wait.py`, as pip has it): wait_exponential waits multiplier * exp_base^(n-1) s, at least min,
+at most max. backoff 2.2 (from memory, and docs/POLICIES.md): expo waits factor * base^(n-1) s, at most max_value; fibo
+1, 1, 2, 3, 5 .. s. Both count the first attempt in stop_after_attempt and max_tries, and their limits of time from its
+begin. botocore 1.43: in Config, max_attempts counts retries, total_max_attempts attempts.
 The source is read by `ast`, and never run."""
 import ast
 import itertools
@@ -10,7 +11,8 @@ import math
 from fractions import Fraction
 
 from zsched_tools.policy.fields import Found, Policy, default
-from zsched_tools.policy.reading import Wrong
+from zsched_tools.policy import services
+from zsched_tools.policy.reading import Node, Wrong
 from zsched_tools.policy.spelling import constant, exponential, fibonacci, linear, listed, nearest, one_by_one, together
 
 FULL = {"kind": "full"}
@@ -70,6 +72,9 @@ class _Source:
                     yield Found("tenacity", name, it.lineno, lambda it=it: _Tenacity(self, it).policy())
                 elif self.called(it) in ("backoff.on_exception", "backoff.on_predicate") and isinstance(it, ast.Call):
                     yield Found("backoff", name, it.lineno, lambda it=it: _backoff(self, it))
+            retries = [it.value for it in getattr(node, "keywords", []) if it.arg == "retries"]
+            if retries and self.called(node) in ("botocore.Config", "aiobotocore.AioConfig"):
+                yield Found("aws", name or "config", node.lineno, lambda it=retries[0]: _botocore(self, it))
             if isinstance(node, ast.Call) and self.called(node) in ("tenacity.Retrying", "tenacity.AsyncRetrying"):
                 yield Found("tenacity", name or "retrying", node.lineno, lambda it=node: _Tenacity(self, it).policy())
 
@@ -183,6 +188,10 @@ class _Tenacity:
             return list(node.elts)
         if isinstance(node, ast.BinOp) and isinstance(node.op, ast.Add):
             return self.each(node.left) + self.each(node.right)
+        if isinstance(node, ast.BinOp) and isinstance(node.op, ast.Mult):
+            items, times = (node.left, node.right) if isinstance(node.left, (ast.List, ast.Tuple)) else (
+                node.right, node.left)
+            return (self.each(items) * min(1000, int(self.source.number(times))))[:1000]
         over = node.generators[0].iter if isinstance(node, (ast.ListComp, ast.GeneratorExp)) else None
         if isinstance(over, ast.Call) and self.source.called(over).split(".")[-1] == "range" and len(over.args) == 1:
             return [node.elt] * min(1000, int(self.source.number(over.args[0])))
@@ -229,6 +238,21 @@ class _Tenacity:
         first = get("multiplier", None)
         first = default("tenacity-exponential", "multiplier") if first is None else first * 1000
         return exponential(first, factor, most, least)
+
+
+def _botocore(source, node):
+    """The policy of botocore's Config, whose retries are those of an AWS config with other counts."""
+    keys = [getattr(it, "value", None) for it in node.keys] if isinstance(node, ast.Dict) else [None]
+    if not set(keys) <= {"max_attempts", "total_max_attempts", "mode"}:
+        raise Wrong(node.lineno, f"retries={source.shown(node)} can't be known without running the source")
+    given, data = dict(zip(keys, node.values)), {}
+    if "mode" in given:
+        data["retry_mode"] = Node(str(getattr(given["mode"], "value", source.shown(given["mode"]))), node.lineno)
+    count = given.get("total_max_attempts", given.get("max_attempts"))
+    if count is not None:
+        attempts = source.number(count) + ("total_max_attempts" not in given)
+        data["max_attempts"] = Node(str(attempts), node.lineno)
+    return services.aws(Node(data, node.lineno))
 
 
 def _backoff(source, node):

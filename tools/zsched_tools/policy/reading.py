@@ -23,7 +23,7 @@ _PAIR = re.compile(r"((?:\\.|[^\\\s=:])+?)(\[[0-9]+\])?(?:\s*[=:]\s*|\s+|$)(.*)"
 _SECTION = re.compile(r"\s*\[\s*([^\]]*?)\s*\]\s*(?:[#;].*)?")
 _ASSIGNED = re.compile(r"(?:export\s+)?([A-Za-z_][\w.-]*)\s*=\s*(.*?)\s*(?:\s[#;].*)?")
 _KINDS = {"json": "json", "yaml": "yaml", "yml": "yaml", "properties": "properties", "py": "python", "ini": "ini",
-          "cfg": "ini", "env": "ini"}
+          "cfg": "ini", "env": "ini", "java": "java", "kt": "java"}
 _MARKS = {"python": r"^(?:import|from) \w|^\s*@\w", "ini": r"^\[(?:default|profile .*)\]|^(?:export\s+)?AWS_\w+\s*=",
           "json": r"\A\s*[{[]", "properties": r"^[\w.\[\]-]+\.[\w.\[\]-]+\s*="}
 

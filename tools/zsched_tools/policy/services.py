@@ -2,12 +2,12 @@
 
 docs/POLICIES.md has their defaults and sources. By their documents unless it says otherwise:
 
-- gRPC (gRFC A6): the n-th wait is drawn 20 % above or below it. A maxAttempts above 5 counts as 5.
-- Envoy: the n-th wait is drawn from 0 to base * (2^n - 1), at most max_interval, which is ten times the base if it
+- gRPC 1.64 (gRFC A6): the n-th wait is drawn 20 % above or below it. A maxAttempts above 5 counts as 5.
+- Envoy 1.30: the n-th wait is drawn from 0 to base * (2^n - 1), at most max_interval, which is ten times the base if it
   isn't set.
-- Temporal: maximumAttempts counts the first attempt, and 0 is no limit.
+- Temporal 1.24: maximumAttempts counts the first attempt, and 0 is no limit.
 - Kubernetes, a Job: from 1.27 or so on the source has a cap of 10 minutes (from memory).
-- AWS SDKs, legacy: drawn from 0 to 2^(n-1) s, 5 attempts. Without retry_mode botocore's mode is legacy."""
+- AWS SDKs (botocore 1.43), legacy: drawn from 0 to 2^(n-1) s, 5 attempts. Without retry_mode its mode is legacy."""
 import functools
 import itertools
 from fractions import Fraction
@@ -42,7 +42,8 @@ def find(root):
         entries, policy = part(node, "methodconfig"), part(node, "retrypolicy")
         for entry in entries.data if entries is not None and isinstance(entries.data, list) else []:
             if (found := part(entry, "retrypolicy", "hedgingpolicy")) is not None:
-                yield Found("grpc", _methods(entry), found.line, functools.partial(_grpc, found, entry, node))
+                read = functools.partial(_grpc, found, entry, node)
+                yield from (Found("grpc", name, found.line, read) for name in _methods(entry))
         if keys_of(policy) & ENVOY:
             yield Found("envoy", _envoy_name(path), policy.line, functools.partial(_envoy, policy, path))
         if key == "retries" and keys & {"attempts", "pertrytimeout", "retryon", "backoff"}:
@@ -77,7 +78,7 @@ def _methods(entry):
     names = part(entry, "name")
     texts_of = [[text_of(part(it, key)) for key in ("service", "method")]
                 for it in (names.data if names is not None and isinstance(names.data, list) else [])]
-    return ",".join("/".join(filter(None, it)) or "default" for it in texts_of) or "default"
+    return ["/".join(filter(None, it)) or "default" for it in texts_of] or ["default"]
 
 
 def _code(node):
@@ -107,8 +108,9 @@ def _grpc(policy, entry, config):
     more = [f"maxAttempts: {count} counts as 5"] if count > 5 else []
     more += ["retryThrottling"] if part(config, "retrythrottling") is not None else []
     waits = exponential(first * 6 / 5, factor, most * 6 / 5)
+    deadline = around.get(duration, "timeout")
     return Policy(waits, min(count, 5) - 1, [*fields.left_out(), *around.left_out(), *more], timeout,
-                  [_code(it) for it in codes.data], {"kind": "proportional", "percent": 20})
+                  [_code(it) for it in codes.data], {"kind": "proportional", "percent": 20}, None, deadline)
 
 
 def _envoy_name(path):
@@ -130,9 +132,9 @@ def envoy_waits(base, most):
 
 def _envoy_others(path):
     """The settings beside a policy that aren't carried over: those of its route, or of each route of its virtual host
-    that has no other policy. Envoy's timeout is that of all attempts together."""
+    that has no other policy."""
     node, others = path[-1][1], ("timeout", "idletimeout", "hedgepolicy", "maxstreamduration")
-    yield from (name for name in node.data if plain(name) in others)
+    yield from (name for name in node.data if plain(name) in others[1:])
     for it in tables(part(node, "routes") or Node({}, 1), path):
         if it != path and part(it[-1][1], "retrypolicy") is None and it[-1][0] == "route":
             yield from (f"{_envoy_name(it)}: {name}" for name in it[-1][1].data if plain(name) in others)
@@ -151,7 +153,9 @@ def _envoy(policy, path):
     left_out = [*fields.left_out(), *(f"retry_back_off.{name}" for name in back_off.left_out())]
     left_out += _envoy_others(path)
     count = default("envoy", "num_retries") if retries is None else whole(retries)
-    return Policy(envoy_waits(base, most), count, left_out, timeout or None, on, FULL)
+    # That of all attempts together; 0 is none.
+    deadline = Fields(path[-1][1]).get(duration, "timeout")
+    return Policy(envoy_waits(base, most), count, left_out, timeout or None, on, FULL, None, deadline)
 
 
 def _istio(retries, route):
@@ -159,8 +163,8 @@ def _istio(retries, route):
     count, base = (fields.get(read, name, default=default("istio", name))
                    for read, name in [(whole, "attempts"), (duration, "backoff")])
     timeout, on = fields.get(duration, "pertrytimeout"), fields.get(texts, "retryon", default=[])
-    left_out = fields.left_out() + (["timeout"] if part(route, "timeout") else [])
-    return Policy(envoy_waits(base, None), count, left_out, timeout or None, on, FULL)
+    deadline = Fields(route).get(duration, "timeout")
+    return Policy(envoy_waits(base, None), count, fields.left_out(), timeout or None, on, FULL, None, deadline)
 
 
 def _temporal(policy, around):
@@ -174,9 +178,10 @@ def _temporal(policy, around):
         raise Wrong(policy.line, "backoffCoefficient must be at least 1" if factor < 1
                     else "maximumInterval must be at least initialInterval")
     attempts = fields.get(whole, "maximumattempts", default=0)
-    timeout = beside.get(duration, "starttoclosetimeout")
+    timeout, deadline = (beside.get(duration, f"{name}timeout") for name in ["starttoclose", "scheduletoclose"])
     left_out = fields.left_out() + [name for name in beside.left_out() if plain(name).endswith("timeout")]
-    return Policy(exponential(first, factor, most), attempts - 1 if attempts else None, left_out, timeout or None)
+    return Policy(exponential(first, factor, most), attempts - 1 if attempts else None, left_out, timeout or None, (),
+                  None, None, deadline)
 
 
 def _job(node):
@@ -200,12 +205,13 @@ def find_aws(root):
     for section, node in root.data.items():
         if keys_of(node) & ({"maxattempts", "retrymode"} if section else {"awsmaxattempts", "awsretrymode"}):
             name = section.removeprefix("profile ").strip().strip("\"'") or "environment"
-            yield Found("aws", name, node.line, functools.partial(_aws, node))
+            yield Found("aws", name, node.line, functools.partial(aws, node))
 
 
-def _aws(node):
+def aws(node):
+    """The policy of a section, or of variables."""
     fields = Fields(node)
-    asked = fields.take("retrymode", "awsretrymode")
+    asked = fields.take("retrymode", "awsretrymode", "mode")
     mode = "legacy" if asked is None else asked.data.lower()
     shared = ["the tokens that all calls of a client share"]
     left_out = {"legacy": ["DynamoDB's own waits"], "standard": shared, "adaptive": ["the rate of a client", *shared]}

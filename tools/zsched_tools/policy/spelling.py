@@ -1,6 +1,7 @@
 """Waits as the text of a schedule, in its shortest form."""
 import functools
 import itertools
+import math
 import operator
 import re
 from fractions import Fraction
@@ -13,6 +14,8 @@ MOST_PIECES = 60
 # So many waits are tried to find those pieces, since waits below a millisecond may be equal when rounded.
 MOST_TRIED = 5000
 GREATEST = 2**64 - 1
+# Waits that are all equal.
+_EQUAL = re.compile(r"\(*spaced\(([0-9]+)\)(?: && (?:recurs\([0-9]+\)|elapsed\.whileOutput\(< [0-9]+\))\))*")
 
 
 class Waits(NamedTuple):
@@ -98,6 +101,13 @@ def fibonacci(most=None):
     return growing(following(), most, 0, "fibonacci(1000)")
 
 
+def decorrelated(first, at, before):
+    """Polly's wait by the moments that are drawn for it and the wait before: f(at) - f(before) divided by 1.4, with
+    f(t) = 2^t * tanh(sqrt(4t)), which is 0 before 0."""
+    one, other = (2.0**it * math.tanh(math.sqrt(4 * it)) if it > 0 else 0.0 for it in (at, before))
+    return (one - other) / 1.4 * first
+
+
 def together(parts):
     """The sums of the waits of parts."""
     steady = None if any(part.steady is None for part in parts) else max(part.steady for part in parts)
@@ -129,6 +139,32 @@ def spelled(waits, retries, limit=None):
     if any(int(it) > GREATEST for it in re.findall("[0-9]+", texts[0])):
         raise ValueError(said("above", most=GREATEST))
     return texts[0] if limit is None else f"({texts[0]} && elapsed.whileOutput(< {limit}))", left_out
+
+
+class Draws(NamedTuple):
+    """Waits that are drawn, from a part of each on, and cut only then to the greatest, which is a whole number."""
+    waits: Waits
+    least: Fraction
+    most: int
+
+
+def drawn(policy, schedule):
+    """A policy with its random waits in the words of the tools, or None. `schedule` has the greatest waits."""
+    jitter, draws = policy.jitter or {}, policy.draws
+    kind, percent, least = jitter.get("kind"), Fraction(str(jitter.get("percent", 0))) / 100, None
+    if isinstance(draws, str):
+        return draws
+    if draws:
+        text, left_out = spelled(draws.waits, policy.retries)
+        text = f"({text} jitter {draws.least}..1 || spaced({draws.most}))"
+        return None if left_out else text if policy.retries is None else f"({text} && recurs({policy.retries}))"
+    if kind == "proportional":
+        least = (1 - percent) / (1 + percent)
+    elif kind == "added" and percent:
+        least = 1 / (1 + percent)
+    elif kind == "added" and (only := _EQUAL.fullmatch(schedule)):
+        least = 1 - Fraction(jitter["up_to_ms"], int(only[1]))
+    return f"{schedule} jitter full" if jitter == {"kind": "full"} else least and f"{schedule} jitter {least}..1"
 
 
 def _runs(waits, retries):

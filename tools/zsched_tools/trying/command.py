@@ -1,13 +1,13 @@
 """The command zsched-try: what policies do, a line each."""
 import argparse
 import io
-import random
 import re
 import sys
+from dataclasses import replace
 
 from zsched_tools import bounding, command, plan_size, program, starting
 from zsched_tools.command import REFUSED, Paint, Refused
-from zsched_tools.drawn import Policy
+from zsched_tools.drawn import Policy, seeded
 from zsched_tools.durations import duration_argument
 from zsched_tools.place import FaultAt, tell
 from zsched_tools.program import LAST_MOMENT
@@ -15,15 +15,18 @@ from zsched_tools.progress import Now
 from zsched_tools.schedule_rules import any_cause
 from zsched_tools.strip import crowd_of, draw_crowd
 from zsched_tools.trials import MOST_AFTER, job_names, plan_of, tried_in
+from zsched_tools.trying import layers
 from zsched_tools.words import duration, plural
 
 TOOL = "zsched-try"
+# What --require-end takes for the limit of the call in a policy's config.
+OWN = "@"
 # The program's status if it is out of memory or of threads.
 NO_MEMORY = 4
 DESCRIPTION = """Runs policies from the command line, all on the same attempts, and prints a line for each: how it ends,
 after how many attempts and when, and how long it waits. If zsched-bounds is there, a second line says what the policy
-does for every input and every duration of attempts, until it gives up. That line is proved. With --attempt it also says
-when the whole call ends.
+does for every input and every duration of attempts, until it gives up. That line is proved, unless it begins with
+`unproved:`. With --attempt it also says when the whole call ends.
 
   $ zsched-try '(exponential(100) && recurs(5))'
   failed 503 after 6 attempts, 3.34 s (waited 3.1 s, longest wait 1.6 s)
@@ -47,12 +50,16 @@ with --seed. docs/FORMATS.md says what then holds for every draw.
                                               from 80 % to 120 % of it, jitter 2/3..1 from two thirds of it
   slow: spaced(1000)                          a policy with a name, which the picture and the plan have
 
-The limit of an attempt that a config has counts as --attempt does, unless that is given."""
+The limit of an attempt that a config has counts as --attempt does, unless that is given.
+
+With --over each attempt of POLICY is a whole call of another one, and so on, and --attempt is that of the last:
+
+  zsched-try @client.yaml --over @gateway.yaml --over @mesh.yaml --attempt 300ms --require-most 9 --require-end 5s"""
 EPILOG = """A policy that is unfinished at --until has neither an end nor a last attempt, so it exceeds every
 --max-total and --max-attempts. Its waits count up to --until. --max-.. are limits of this run, --require-.. of every
 run. The whole call is from the begin of the first attempt to the end of the last.
 
-Exit status: 0; 1 if a policy exceeds a bound, or if a required bound isn't proved (standard error names it); 2 if a
+Exit status: 0; 1 if a policy exceeds a bound, or if a required bound isn't proved (standard error says so); 2 if a
 policy or an argument is wrong, with a caret below its place, if there is no zsched, or if --require-.. is given without
 zsched-bounds; 3 if a program or writing fails."""
 
@@ -90,15 +97,15 @@ def _count(most):
     return command.number(0, most, f'"{{}}" is not a whole number up to {most}')
 
 
-def _attempt(given, policy):
+def attempt_of(given, policy):
     """The least and the greatest duration of a policy's attempts, by --attempt or its config, or None."""
     return given.attempt or (policy.timeout and (1, policy.timeout))
 
 
-def _entries(given, policy):
-    """The entries of the script of a policy. Without a limit its attempts take as long as those of others."""
-    limits = _attempt(given, policy)
-    longest = limits[1] if limits else max((it.timeout for it in given.read if it.timeout), default=None)
+def entries_of(given, policy):
+    """The entries of the script of a policy. Its attempts take as long as its own limit, whatever others have."""
+    limits = attempt_of(given, policy)
+    longest = limits and limits[1]
     for option, entry in [("--fails", given.fails), ("--then", given.then)]:
         if entry and limits and not limits[0] <= entry[0] <= longest:
             what = "--attempt" if given.attempt else f"the limit of {policy.text}, {duration(longest)},"
@@ -123,7 +130,7 @@ def _exceeded(given, policy, found):
         yield f"{found.attempts} attempts{more}, over --max-attempts {given.max_attempts}"
 
 
-def _not_proved(given, bounds):
+def _not_proved(given, policy, bounds):
     """The required bounds of a policy that aren't proved, in words."""
     wait = bounds.longest if bounds.has_all_waits() else None
     for name, found, words, without in [
@@ -132,24 +139,43 @@ def _not_proved(given, bounds):
             ("total", bounds.total, "waits of up to {} in all", "no limit of waits"),
             ("end", bounds.run, "a call of up to {}", "no limit of the whole call")]:
         limit = getattr(given, f"require_{name}")
+        limit = policy.deadline if limit == OWN else limit
         if limit is not None and (found is None or found > limit):
             shown = without if found is None else words.format(
                 plural(found, "attempt") if name == "most" else bounding.rounded(found))
-            yield f"--require-{name} {limit if name == 'most' else duration(limit)} is not proved: {shown}"
+        elif limit is not None and not (bounds.is_proved or given.allow_unproved):
+            shown = "zsched-bounds is unproved (--allow-unproved accepts it)"
+        else:
+            continue
+        yield f"--require-{name} {limit if name == 'most' else duration(limit)} is not proved: {shown}"
 
 
 def bounds_of_all(given):
     """The bounds of the policies for every input; None for each if zsched-bounds isn't found and isn't required."""
-    path, attempts = program.find_bounds(given.bounds), [_attempt(given, policy) for policy in given.read]
-    if getattr(given, "require_end", None) is not None and None in attempts:
-        raise Refused("--require-end needs --attempt TIME, the greatest duration of an attempt")
+    path, attempts = _bounds_path(given), [attempt_of(given, policy) for policy in given.read]
+    _check_end(given, given.read, attempts)
     if path is not None:
         groups = [given.read] if len(set(attempts)) == 1 else [[it] for it in given.read]
-        return [it for group in groups for it in bounding.of_policies(path, group, _attempt(given, group[0]))]
-    if any(value is not None for name, value in vars(given).items() if name.startswith("require_")):
-        raise Refused("--require-.. needs zsched-bounds, which is neither built nor installed; set --bounds PATH or "
-                      "ZSCHED_BOUNDS")
+        return [it for group in groups for it in bounding.of_policies(path, group, attempt_of(given, group[0]))]
     return [None] * len(given.policies)
+
+
+def _check_end(given, policies, attempts):
+    """Rejects a required end without the limit that it takes, or without that of an attempt."""
+    end = getattr(given, "require_end", None)
+    if end == OWN and (without := [it.text for it in policies if not it.deadline]):
+        raise Refused(f"--require-end @ takes the limit of the call that a config has, and {without[0]} has none")
+    if end is not None and None in attempts:
+        raise Refused("--require-end needs --attempt TIME, the greatest duration of an attempt")
+
+
+def _bounds_path(given):
+    """The path of zsched-bounds; None if it isn't found and isn't required."""
+    path = program.find_bounds(given.bounds)
+    if path is None and any(value is not None for name, value in vars(given).items() if name.startswith("require_")):
+        raise Refused("--require-.. needs zsched-bounds, which is neither built (./run builds it) nor installed; "
+                      "--bounds PATH or ZSCHED_BOUNDS names one")
+    return path
 
 
 def _read(given):
@@ -161,11 +187,7 @@ def _read(given):
         except UnicodeEncodeError:
             raise Refused(f"policy {given.at + 1} is not UTF-8") from None
         given.read.append(Policy(text, given.zsched and program.find(given.zsched)))
-        given.schedules.append(given.read[-1].schedule(_source(given, text)))
-
-
-def _source(given, text):
-    return random.Random(f"{given.seed} {text}")
+        given.schedules.append(given.read[-1].schedule(seeded(given.seed)))
 
 
 def _wrong(tool, given, cause):
@@ -178,31 +200,35 @@ def _wrong(tool, given, cause):
 def of_all(given, *policies):
     """What the bounds of policies are for, with the durations of their attempts."""
     every = "for every draw and input" if any(it.is_drawn or it.is_less for it in policies) else "for every input"
-    attempt, *others = {_attempt(given, it) for it in policies}
+    attempt, *others = {attempt_of(given, it) for it in policies}
     if others:
         return f"{every} and each one's attempts"
-    if attempt is None:
-        return every
-    times = [f"at most {duration(attempt[1])}"] if attempt[0] == 1 else dict.fromkeys(map(duration, attempt))
-    return f"{every} and attempts of {' to '.join(times)}"
+    return f"{every} and attempts{layers.of_attempts(attempt)}" if attempt else every
+
+
+def _draw(given, report):
+    notes = [f"{name}: {it.source}" for name, it in zip(job_names(given.read), given.read)]
+    for line in draw_crowd(crowd_of(io.BytesIO(report), []), given.title, notes=notes):
+        print(line)
 
 
 def _print_all(given, report, all_bounds):
     """The lines of the policies, or the picture; and the bounds that they exceed. Returns the status."""
     if given.svg:
-        notes = [f"{name}: {it.source}" for name, it in zip(job_names(given.read), given.read)]
-        for line in draw_crowd(crowd_of(io.BytesIO(report), []), given.title, notes=notes):
-            print(line)
+        _draw(given, report)
     paint, status = Paint(given.color, sys.stdout), 0
     widest = max(map(len, given.policies)) + 2 if len(given.policies) > 1 else 0
-    for policy, found, bounds in zip(given.read, tried_in(report), all_bounds):
+    each = [entries_of(given, it)[0][0] for it in given.read]
+    each = each if len(set(each)) > 1 else [None] * len(each)
+    for policy, found, bounds, length in zip(given.read, tried_in(report), all_bounds, each):
         if not given.svg:
             style = "good" if found.how in ("succeeded", "finished") else "bad" if found.how == "failed" else "strong"
-            ending, after, rest = found.line().partition(" after ")
+            ending, after, rest = found.line(length).partition(" after ")
             print((policy.text.ljust(widest) if widest else "") + paint(style, ending) + after + rest)
             if bounds is not None:
-                print(" " * widest + f"{of_all(given, policy)}: {bounds.line()}")
-        for words in [*_exceeded(given, policy, found), *(_not_proved(given, bounds) if bounds is not None else [])]:
+                print(" " * widest + f"{bounding.mark(bounds)}{of_all(given, policy)}: {bounds.line()}")
+        unproved = _not_proved(given, policy, bounds) if bounds is not None else []
+        for words in [*_exceeded(given, policy, found), *unproved]:
             sys.stdout.flush()
             print(f"{TOOL}: {policy.text}: {words}", file=sys.stderr)
             status = command.NO
@@ -226,7 +252,7 @@ def _run(tool, given, plan):
     if status == REFUSED and place:
         given.at = int(place[1])
         cause = any_cause(given.schedules[given.at], place[2])
-        raise FaultAt(given.read[given.at].cause_at(_source(given, given.policies[given.at]), cause))
+        raise FaultAt(given.read[given.at].cause_at(seeded(given.seed), cause))
     if status == REFUSED:
         raise Refused(line.removeprefix("zsched: "))
     if status:
@@ -238,13 +264,13 @@ def tried(tool, given, is_plan=False):
     """Runs the policies of a command line, and returns the report, or the plan. A fault is shown, for None."""
     try:
         _read(given)
-        jobs = zip(job_names(given.read), given.schedules, (_entries(given, policy) for policy in given.read))
+        jobs = zip(job_names(given.read), given.schedules, (entries_of(given, policy) for policy in given.read))
         plan = plan_of(given.until, given.mode, jobs)
         report = plan if is_plan else _run(tool, given, plan.encode())
     except FaultAt as fault:
         return _wrong(tool, given, fault.cause)
     for policy, schedule in zip(given.read, given.schedules):
-        policy.show(tool, given.attempt is None)
+        policy.show(tool, given.attempt is None or (getattr(given, "over", []) and policy is not given.read[-1]))
         if policy.is_drawn:
             print(f"{tool}: {policy.text} with the seed {given.seed} is {schedule}", file=sys.stderr)
     return report
@@ -260,6 +286,8 @@ def _check_requirements(given):
 
 def work(given):
     _check_requirements(given)
+    if given.over:
+        return _work_over(given)
     found = tried(TOOL, given, given.plan)
     if found is None:
         return REFUSED
@@ -267,6 +295,33 @@ def work(given):
         print(found, end="")
         return 0
     return _print_all(given, found, bounds_of_all(given))
+
+
+def _work_over(given):
+    """Runs layers of policies, and prints a line for each and for the whole."""
+    layers.refuse_options(given)
+    given.policies += given.over
+    if tried(TOOL, given) is None:
+        return REFUSED
+    outer, bottom = given.read[0], given.read[-1]
+    limits, entries = [it.timeout for it in given.read], entries_of(given, bottom)
+    made = layers.Layers(program.find(given.zsched), given, limits, entries)
+    call, path, attempt = made.call(), _bounds_path(given), attempt_of(given, bottom)
+    _check_end(given, [outer], [attempt])
+    if given.plan:
+        print(made.plan(call).decode(), end="")
+        return 0
+    found, whole = made.bounds(path, attempt) if path else ([], None)
+    if given.svg:
+        _draw(given, program.run_plan(made.zsched, made.plan(call)))
+    else:
+        every = "for every draw and input" if any(it.is_drawn or it.is_less for it in given.read) else "for every input"
+        layers.show(made, call, found, whole, every)
+    tried_whole = replace(call.tried, attempts=call.bottom())
+    lines = [*_exceeded(given, outer, tried_whole), *(_not_proved(given, outer, whole) if whole else [])]
+    for words in lines:
+        print(f"{TOOL}: the whole: {words}", file=sys.stderr)
+    return command.NO if lines else 0
 
 
 def add_attempts(parser):
@@ -282,6 +337,11 @@ def add_attempts(parser):
                              "of the attempts of this run, unless --fails or --then say another")
     parser.add_argument("--until", type=_time(0), default=_time(0)("1d"), metavar="TIME", help="the horizon: 1d")
     parser.add_argument("--seed", type=_count(2**64 - 1), default=0, metavar="N", help="of random waits (0)")
+    add_programs(parser)
+
+
+def add_programs(parser):
+    """Adds the options of the programs to a command's."""
     parser.add_argument("--zsched", metavar="PATH", help="the program (ZSCHED, the built or the installed one)")
     parser.add_argument("--bounds", metavar="PATH", help="zsched-bounds (ZSCHED_BOUNDS, the built or installed one)")
 
@@ -297,8 +357,13 @@ def arguments():
     parser.add_argument("--require-wait", type=_time(0), metavar="TIME", help="the longest wait for every input")
     parser.add_argument("--require-total", type=_time(0), metavar="TIME",
                         help="the most of all waits for every input: the waits alone, without the attempts")
-    parser.add_argument("--require-end", type=_time(0), metavar="TIME",
-                        help="the most of the whole call for every input, with attempts as --attempt says")
+    parser.add_argument("--require-end", type=lambda word: OWN if word == OWN else _time(0)(word), metavar="TIME",
+                        help="the most of the whole call for every input, with attempts as --attempt says; @ is the "
+                             "limit of the call in the policy's config")
+    parser.add_argument("--over", action="append", default=[], metavar="INNER",
+                        help="the policy of what each attempt calls; again for what that calls")
+    parser.add_argument("--allow-unproved", action="store_true",
+                        help="let --require-.. accept what a zsched-bounds says that ./run built unproved")
     printed = parser.add_mutually_exclusive_group()
     printed.add_argument("--plan", action="store_true", help="print the plan, and run nothing")
     printed.add_argument("--svg", action="store_true", help="print the picture")

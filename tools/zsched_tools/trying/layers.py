@@ -1,0 +1,140 @@
+"""Policies over each other: an attempt of one is a whole call of the next one, and those of the last are the calls at
+the bottom."""
+from dataclasses import replace
+from math import inf
+from typing import NamedTuple
+
+from zsched_tools import bounding, program
+from zsched_tools.command import Refused
+from zsched_tools.program import LAST_MOMENT, cut_plans, job_text
+from zsched_tools.reports import attempts_in
+from zsched_tools.trials import job_names, tried_in
+from zsched_tools.words import duration, plural
+
+MOST_ROWS, MOST_SCRIPT = 200, 999
+
+
+class Call(NamedTuple):
+    """A call of a layer: how long it takes and how it ends, the begins of its attempts with their calls, the entries of
+    its job's script, and its result in words (none at the bottom)."""
+    ms: int
+    word: str
+    value: int
+    attempts: tuple = ()
+    entries: tuple = ()
+    tried: object = None
+
+    def bottom(self, until=inf):
+        """The number of calls at the bottom that begin before a moment, and before the end of this call."""
+        until = min(until, self.ms)
+        return sum(it.bottom(until - begin) for begin, it in self.attempts if begin < until) if self.tried else 1
+
+
+class Layers:
+    """Policies, outermost first, with the draws of their schedules. `limits` has the longest attempt of each, or None,
+    `entries` those of the calls at the bottom: all that are left are as the last one."""
+
+    def __init__(self, zsched, given, limits, entries):
+        self.zsched, self.given, self.limits, self.entries, self.calls = zsched, given, limits, entries, {}
+        self.names = job_names(given.read)
+
+    def call(self, level=0, done=0):
+        """A call of a layer, after so many calls at the bottom."""
+        done = min(done, len(self.entries) - 1)
+        if level == len(self.names):
+            return Call(*self.entries[done])
+        if (level, done) not in self.calls:
+            self.calls[level, done] = self._called(level, done)
+        return self.calls[level, done]
+
+    def _called(self, level, done):
+        inner = [self._cut(level, self.call(level + 1, done))]
+        counts = [inner[0].bottom()]
+        while done + sum(counts) < len(self.entries) and inner[-1].word == "err" and len(inner) < MOST_SCRIPT:
+            inner.append(self._cut(level, self.call(level + 1, done + sum(counts))))
+            counts.append(inner[-1].bottom())
+        entries = [it[:3] for it in inner]
+        report = program.run_plan(self.zsched, cut_plans(self.given.until, [self.job(level, entries)])[0][0])
+        (tried,), begins = tried_in(report), [int(it[0]) for it in attempts_in(report)]
+        if tried.how == "unfinished" and level:
+            raise Refused(f"{self.given.read[level].text}: a call has no end up to {duration(tried.at)}, and it is an "
+                          "attempt of the policy over it; --after N lets calls at the bottom succeed")
+        word = "ok" if tried.how == "succeeded" else "err"
+        attempts = tuple((begin, inner[min(at, len(inner) - 1)]) for at, begin in enumerate(begins))
+        return Call(tried.at, word, int(tried.result or 0), attempts, tuple(entries), tried)
+
+    def _cut(self, level, call):
+        """A call as an attempt of the policy over it, which may have a limit."""
+        limit = self.limits[level] if level + 1 < len(self.names) else None
+        return call._replace(ms=limit, word="err", value=self.entries[0][2]) if limit and call.ms > limit else call
+
+    def job(self, level, entries, name=None, start=None):
+        texts = ",".join(f'{{"ms":{ms},"{word}":{value}}}' for ms, word, value in entries)
+        return job_text(name or self.names[level], self.given.schedules[level], texts, "retry", start)
+
+    def jobs(self, call, level=0, name="", start=0):
+        """The jobs of a call and of those below it."""
+        yield self.job(level, call.entries, self.names[level] + name, start or None)
+        for number, (begin, it) in enumerate(call.attempts, 1) if level + 1 < len(self.names) else ():
+            yield from self.jobs(it, level + 1, f"{name}-{number}", start + begin)
+
+    def plan(self, call):
+        """The plan of all calls but those at the bottom."""
+        found = []
+        for job in self.jobs(call):
+            found.append(job)
+            if len(found) > MOST_ROWS:
+                raise Refused(f"a picture and a plan have at most {MOST_ROWS} calls")
+        return cut_plans(self.given.until, found)[0][0]
+
+    def bounds(self, path, attempt):
+        """The durations of a policy's attempts and its bounds, for each, outermost first; and those of the whole, which
+        counts calls at the bottom. `attempt` has the durations of these calls, or None."""
+        found, most = [], 1
+        for level in reversed(range(len(self.names))):
+            limit = self.limits[level] if level + 1 < len(self.names) else None
+            if found:
+                run = found[0][1].run
+                attempt = (attempt[0], run) if run is not None and run <= LAST_MOMENT else None
+            if limit and found:
+                attempt = (min(attempt[0], limit), min(attempt[1], limit)) if attempt else (1, limit)
+            bound = bounding.of_policies(path, [self.given.read[level]], attempt)[0]
+            most = most * bound.most if None not in (most, bound.most) else None
+            found.insert(0, (attempt, bound))
+        return found, replace(found[0][1], most=most)
+
+
+def of_attempts(attempt):
+    """The durations of attempts in words."""
+    if attempt is None:
+        return ""
+    return f" of at most {duration(attempt[1])}" if attempt[0] == 1 else " of " + " to ".join(
+        dict.fromkeys(map(duration, attempt)))
+
+
+def show(layers, call, found, whole, every):
+    """Prints a line for each layer and one for the whole, each with the bounds and what they are for."""
+    inner, widest = call, max(map(len, [*layers.names, "the whole"])) + 2
+    mark = bounding.mark(whole) if whole else ""
+
+    def line(name, what, scope="", proved=""):
+        print(f"{name:<{widest}}{what}" + (f"\n{'':{widest}}{mark}{every}{scope}: {proved}" if found else ""))
+    for level, name in enumerate(layers.names):
+        below, attempt, bound = layers.names[level + 1:level + 2], *(found[level] if found else (None, None))
+        scope = f" and calls of {below[0]}" if below else " and attempts" if attempt else ""
+        line(name, inner.tried.line(), scope + of_attempts(attempt), bound and bound.line())
+        inner = inner.attempts[0][1]
+    most = whole and ("no limit of" if whole.most is None else f"at most {whole.most}")
+    line("the whole", f"{call.tried.how} {call.tried.result}".strip() + f" after {plural(call.bottom(), 'call')}"
+         f" at the bottom, {duration(call.ms)}", " and calls at the bottom" * bool(attempt) + of_attempts(attempt),
+         whole and f"{most} calls at the bottom{whole.end()}")
+
+
+def refuse_options(given):
+    """Layers retry, and only some limits are those of the whole."""
+    for name in ["require_wait", "require_total", "max_wait"]:
+        if getattr(given, name) is not None:
+            raise Refused(f"--{name.replace('_', '-')} is for a policy alone; --require-most and --require-end, "
+                          "--max-attempts and --max-total hold for the whole of layers")
+    if given.mode != "retry" or len(given.policies) > 1:
+        raise Refused("--over takes one POLICY, which retries")
