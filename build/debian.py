@@ -29,7 +29,8 @@ License: Apache-2.0
 
 def newest():
     """The newest release in CHANGELOG.md: its date and the texts of its lines. Its version must be that of VERSION."""
-    part = (TOP / "CHANGELOG.md").read_text().split("\n## ")[1]
+    first, *parts = (TOP / "CHANGELOG.md").read_text().split("\n## ")[1:]
+    part = parts[0] if first.startswith("[Unreleased]\n") else first
     heading = re.match(r"(\S+) \((\d+-\d+-\d+)\)\n", part)
     if heading is None or heading[1] != version():
         raise Refused(f"CHANGELOG.md: the newest heading isn't that of version {version()}: {part.splitlines()[0]}")

@@ -57,13 +57,10 @@ class Toolchain:
         self.kit = pathlib.Path(os.path.realpath(command)).parent.parent
 
     def run(self, words, folder, log):
-        """Runs a command to its end, with its output in the log: its status, and the processor seconds that it took."""
+        """Runs a command to its end, with its output in the log, and returns its status."""
         with open(log, "wb") as out:
-            ran = subprocess.Popen([str(it) for it in words], cwd=folder, stdin=subprocess.DEVNULL, stdout=out,
-                                   stderr=subprocess.STDOUT)
-            _, status, used = os.wait4(ran.pid, 0)
-            ran.returncode = os.waitstatus_to_exitcode(status)
-        return ran.returncode, used.ru_utime + used.ru_stime
+            return subprocess.run([str(it) for it in words], cwd=folder, stdin=subprocess.DEVNULL, stdout=out,
+                                  stderr=subprocess.STDOUT, check=False).returncode
 
     def crate_words(self, crate):
         """The words that name a crate in its folder, and the libraries below it as they are built."""

@@ -6,11 +6,14 @@
     ./check --anew     repeats what earlier runs on this machine passed
     ./check NAME ..    over the programs built last: proofs, survivors, or a file of tests (cases: test_cases.py)
     ./check quick      for the minutes between edits: proves what changed, and runs the plans unproved
+    ./check --no-install ..  installs no Debian package that is missing; else ./check does so
 
 The last line is 'N passed, M failed'; the status is 0 if M is 0."""
 import argparse
 import contextlib
+import ctypes
 import os
+import pathlib
 import re
 import shutil
 import signal
@@ -22,8 +25,7 @@ import time
 sys.dont_write_bytecode = True
 
 import quick
-import yardstick
-from support import POPULATION, REFUSALS, STAMP, TOP, ZSCHED, floors
+from support import POPULATION, REFUSALS, TOP, floors
 from toolchain import sources_sum
 
 # The checksum of all files with which the gate passed, for build/release.
@@ -34,6 +36,41 @@ REDIRECTS = ["ZSCHED", "ZSCHED_POPULATION", "ZSCHED_BOUNDS", "ZSCHED_LIBRARY", "
              "ZS_REFUSALS", "ZS_CHOSEN", "PYTEST_ADDOPTS"]
 # The minutes after which a part has failed.
 MINUTES = {"proofs": 170, "survivors": 170, "tests": 60}
+# The checksums of the sources of the programs that ./run shows as proved once the gate passed over them.
+STAMPS = {name: TOP / "crates" / name / "out" / "proved" for name in ["zsched", "zsched_bounds"]}
+SIGNALS = [signal.SIGTERM, signal.SIGINT, signal.SIGHUP]
+# The `prctl` by which processes whose parent ended are below this one.
+SUBREAPER = 36
+
+
+def below():
+    """The processes below this one that have not ended."""
+    parents = {}
+    for path in pathlib.Path("/proc").glob("[0-9]*/stat"):
+        with contextlib.suppress(OSError):
+            state, parent = path.read_text(errors="replace").rpartition(")")[2].split()[:2]
+            parents[int(path.parent.name)] = int(parent) if state != "Z" else 0
+    found, more = set(), {os.getpid()}
+    while more := {it for it, parent in parents.items() if parent in more} - found:
+        found |= more
+    return found
+
+
+def end_all():
+    """Ends every process below this one, also in a session of its own."""
+    while left := below():
+        for it in left:
+            with contextlib.suppress(ProcessLookupError):
+                os.kill(it, signal.SIGKILL)
+        time.sleep(0.05)
+
+
+def interrupted(number, _):
+    """Ends all, and then this process. More signals may come meanwhile: `timeout` sends two."""
+    for it in SIGNALS:
+        signal.signal(it, signal.SIG_IGN)
+    end_all()
+    os._exit(128 + number)
 
 
 def judged(name, lines, status, is_late=False):
@@ -67,9 +104,9 @@ class Part(threading.Thread):
             stdin=subprocess.DEVNULL, stdout=subprocess.PIPE, stderr=subprocess.STDOUT)
         self.start()
 
-    def stop(self, is_late=True):
-        """Ends the part and every process that it started."""
-        self.is_late = is_late
+    def stop(self):
+        """Ends a part that takes too long, and its processes."""
+        self.is_late = True
         with contextlib.suppress(ProcessLookupError):
             os.killpg(self.process.pid, signal.SIGKILL)
 
@@ -112,22 +149,16 @@ def run(given, files, running):
         part.join()
 
 
-def table(parts, seconds, yards):
-    """The table of times, with the yardsticks if they were measured."""
+def table(parts, seconds):
+    """The table of times."""
     lines = [f"{'part':<12}{'seconds':>9}{'processor s':>13}{'passed':>8}{'failed':>8}"]
     lines += [f"{it.name:<12}{it.seconds:>9.0f}{it.processor:>13.0f}{it.passed:>8}{it.failed:>8}" for it in parts]
-    used = sum(it.processor for it in parts)
-    lines.append(f"{'all':<12}{seconds:>9.0f}{used:>13.0f}")
-    if yards:
-        mean = sum(yards) / len(yards)
-        lines.append(f"yardstick: {len(yards)} proofs of {yardstick.NAME} took {min(yards):.1f} to {max(yards):.1f} "
-                     f"processor seconds; the gate took {used / mean:.0f} times the mean, {mean:.1f}")
-    return "\n".join(lines)
+    return "\n".join([*lines, f"{'all':<12}{seconds:>9.0f}{sum(it.processor for it in parts):>13.0f}"])
 
 
 def options_of(words):
     """The options of the command line, and the files of tests among them."""
-    parser = argparse.ArgumentParser("check", "./check [--anew] [--short] [quick | NAME ..]", __doc__,
+    parser = argparse.ArgumentParser("check", "./check [--anew] [--short] [--no-install] [quick | NAME ..]", __doc__,
                                      formatter_class=argparse.RawDescriptionHelpFormatter)
     parser.add_argument("--anew", action="store_true", help="repeat what an earlier run passed")
     parser.add_argument("--short", action="store_true", help="leave out the tests that are marked `full`")
@@ -149,25 +180,33 @@ def main(words):
         if shutil.which(command) is None:
             print(f"check: {what} (the command '{command}') isn't on this machine.", file=sys.stderr)
             return 127
-    if given.names == ["quick"]:
-        return quick.main()
-    signal.signal(signal.SIGTERM, lambda number, _: sys.exit(128 + number))
-    is_whole, before, tree, running = not given.names, sources_sum("zsched"), sources_sum("--all"), []
-    series, begun = yardstick.Series() if is_whole else None, time.monotonic()
-    if is_whole:
-        for old in [ZSCHED, POPULATION, REFUSALS, STAMP, PASSED]:
-            old.unlink(missing_ok=True)
+    ctypes.CDLL(None).prctl(SUBREAPER, 1)
+    # `nohup` ignores one, which stays ignored.
+    for it in SIGNALS:
+        if signal.getsignal(it) != signal.SIG_IGN:
+            signal.signal(it, interrupted)
     try:
-        run(given, files, running)
+        return quick.main() if given.names == ["quick"] else gate(given, files)
     finally:
-        for part in running:
-            if part.is_alive():
-                part.stop(is_late=False)
-    print(table(running, time.monotonic() - begun, series.end() if series else []))
+        end_all()
+
+
+def gate(given, files):
+    """Runs the parts, and returns the exit status."""
+    is_whole, running = not given.names, []
+    before, tree = [{name: sources_sum(name) for name in STAMPS}, sources_sum("--all")]
+    begun = time.monotonic()
+    if is_whole:
+        for old in [POPULATION, REFUSALS, PASSED, *STAMPS.values(),
+                    *(stamp.with_name(name) for name, stamp in STAMPS.items())]:
+            old.unlink(missing_ok=True)
+    run(given, files, running)
+    print(table(running, time.monotonic() - begun))
     passed, failed = sum(it.passed for it in running), sum(it.failed for it in running)
     if is_whole and not failed:
-        if before == sources_sum("zsched"):
-            STAMP.write_text(f"{before}\n")
+        if before == {name: sources_sum(name) for name in STAMPS}:
+            for name, stamp in STAMPS.items():
+                stamp.write_text(f"{before[name]}\n")
             if not given.short and tree == sources_sum("--all"):
                 PASSED.parent.mkdir(exist_ok=True)
                 PASSED.write_text(f"{tree}\n")

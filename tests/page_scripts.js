@@ -9,7 +9,8 @@ const vm = require("vm");
 const MOST_ATTEMPTS = 2100;
 const MOST_OF_A_CLIENT = 100000;
 const FIELDS = { a: "recurs(3)", b: "", mode: "retry", world: "script", script: "5 err 7, 5 ok 1", until: "1s",
-  start: "", clients: "20", spread: "10s", down: "5s..35s", bad: "50 err 503", good: "40 ok 200", seed: "1", attempt: "" };
+  start: "", clients: "20", spread: "10s", capacity: "", down: "5s..35s", bad: "50 err 503", good: "40 ok 200",
+  seed: "1", attempt: "" };
 
 const text = fs.readFileSync(process.argv[2], "utf8");
 const named = vm.runInThisContext;
@@ -36,12 +37,13 @@ globalThis.page = {
   verdicts: changed => named("drawing").rowsOf(page.report(changed)).map(named("drawing").verdict),
   // The picture of a report.
   picture: (report, options) => named("drawing").picture(named("drawing").rowsOf(report), options).svg,
-  // The fault of a policy in words, or what it becomes and what a draw of it is.
+  // The fault of a policy in words, or what it becomes, and its least and greatest draw, and that of a client.
   explained(text) {
     const fault = named("asking").faultOf(text);
     if (fault) return { ...fault, line: undefined };
     const [policy] = named("asking").policiesOf({ a: text, b: "" });
-    const draws = [() => 0, () => 1 - 2 ** -53].map(it => policy.texts(it));
+    const ends = [() => (_, low) => low, () => (_, low, high) => high], { seeded } = named("asking");
+    const draws = [...ends, seeded(7n, 3)].map(it => policy.texts(it));
     const part = policy.isPart ? ["without bounds"] : [];
     return [policy.name, ...policy.becomes(), ...part, ...policy.isDrawn ? draws : []];
   },

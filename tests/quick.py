@@ -2,9 +2,9 @@
 """The quick gate, for the minutes between edits.
 
 It proves each crate whose files changed since it was last proved here, by `rt check`, runs the tests of the crates
-above by `rt try --test`, and the plans on the program without proofs that ./run builds: no crate above a changed
-contract, no edit, no cut. The last line is 'N passed, M failed'. ./run --proved calls `quick.py --proved`, which counts
-all crates of the program as proved."""
+above by `rt try --test`, and the plans on the program without proofs: no crate above a changed contract, no edit, no
+cut. The last line is 'N passed, M failed'. ./run --proved calls `quick.py --proved PROGRAM`, which counts all crates of
+the program as proved."""
 import concurrent.futures
 import hashlib
 import json
@@ -56,12 +56,12 @@ def proves(crate):
 
 
 def runs_plans():
-    """Whether the plans give their reports, on the program that ./run builds."""
-    if not succeeds("./run", [TOP / "run", TOP / "examples" / "checkout.json"], TOP):
-        return False
-    unproved = ZSCHED.with_name(f"unproved-{sources_sum('zsched')}")
+    """Whether the plans give their reports, on the program without proofs."""
+    program = ZSCHED.with_name(f"unproved-{sources_sum('zsched')}")
     words = [sys.executable, "-m", "pytest", "-q", "-n", "auto", "tests/test_cases.py", "-k", "beside and as_it_is"]
-    return succeeds("the plans", words, TOP, ZSCHED=str(unproved if unproved.exists() else ZSCHED))
+    build = [sys.executable, "build/unproved.py", "zsched", program]
+    is_built = program.exists() or succeeds("zsched without proofs", build, TOP)
+    return is_built and succeeds("the plans", words, TOP, ZSCHED=str(program))
 
 
 def main():
@@ -79,6 +79,7 @@ def main():
 
 
 if __name__ == "__main__":
-    if sys.argv[1:] == ["--proved"]:
-        sys.exit(note({crate.name: total(crate) for crate in [*CRATES["zsched"].below, CRATES["zsched"]]}))
+    if sys.argv[1:2] == ["--proved"]:
+        program = CRATES[sys.argv[2]]
+        sys.exit(note({crate.name: total(crate) for crate in [*program.below, program]}))
     sys.exit(main())

@@ -15,8 +15,6 @@ sys.path[:0] = [str(TOP / "build"), str(TOP / "tools")]
 ZSCHED = TOP / "crates" / "zsched" / "out" / "zsched"
 POPULATION = TOP / "crates" / "zsched_population" / "out" / "zsched_population"
 REFUSALS = TOP / "crates" / "zs_refusals" / "out" / "zs_refusals"
-# The checksum of the sources that the built program passed the gate with.
-STAMP = ZSCHED.with_name("proved")
 
 SCRIPT = '"script":[{"ms":5,"err":7},{"ms":5,"ok":1}]'
 ONE_JOB = ('{"horizon":1000,"jobs":[{"name":"a","mode":"retry","schedule":"recurs(3)",' + SCRIPT + "}]}").encode()
@@ -146,6 +144,16 @@ def run_here(main, words, given=b""):
             gc.enable()
     streams["stdout"].flush()
     return status, streams["stdout"].buffer.getvalue().decode(), streams["stderr"].getvalue()
+
+
+def draw(seed, client, part, number, least, most):
+    """A draw of the tools and the page, calculated from docs/FORMATS.md a second time."""
+    state = 0
+    for word in (seed, client, part, number):
+        state = (state + word + 0x9e3779b97f4a7c15) % 2**64
+        for shift, factor in [(30, 0xbf58476d1ce4e5b9), (27, 0x94d049bb133111eb), (31, 1)]:
+            state = (state ^ state // 2**shift) * factor % 2**64
+    return least + state * (most - least + 1) // 2**64
 
 
 def floors():

@@ -1,5 +1,5 @@
-"""benches/: the results of zsched and of the baseline for the plans are those of the reference, and the commands run. Other
-programs take the place of zsched and the baseline if nothing is to be measured."""
+"""benches/: the results of zsched and of the baseline for the plans are those of the reference, and the commands run.
+Other programs take the place of zsched and the baseline if nothing is to be measured."""
 import json
 import os
 import re
@@ -18,6 +18,7 @@ BENCHES = TOP / "benches"
 sys.path.insert(0, str(BENCHES))
 
 import bench
+import calls
 import growth
 import plans
 
@@ -76,7 +77,8 @@ def test_a_run_prints_a_row(tmp_path):
 
 def test_growth_is_drawn(tmp_path):
     picture = tmp_path / "growth.svg"
-    status, lines = ran("--growth", "--zsched", CAT, "--baseline", CAT, "--runs", "1", "--divisor", "1000", "--picture", picture)
+    status, lines = ran("--growth", "--zsched", CAT, "--baseline", CAT, "--runs", "1", "--divisor", "1000",
+                        "--picture", picture)
     assert (status, "\n".join(lines).count("| Against |")) == (0, 1)
     assert ElementTree.parse(picture).getroot().get("width") == str(4 * growth.COLUMN)
     assert growth.exponent([(size, 3 * size ** 2) for size in growth.up_to(1000)]) == pytest.approx(2)
@@ -89,6 +91,14 @@ def test_a_population_is_run_by_ranges_and_joined(population, tmp_path):
     number = r"[\d,]+\.\d"
     found = re.findall(rf"^\| ([\w ]+) \|( {number} \|){{3}} [\d,]+ \|( {number} \|){{2}}$", rows, re.MULTILINE)
     assert [row[0] for row in found] == ["one program", "ranges", "check", "lines", "summary", "load"]
+
+
+def test_a_log_is_measured_by_the_program_alone_too(zsched, tmp_path):
+    status, rows, errors = run_tool([sys.executable, BENCHES / "logs.py", "--mb", "1", "--folder", tmp_path],
+                                    ZSCHED=str(zsched))
+    assert (status, errors, os.listdir(tmp_path)) == (0, "", [])
+    found = re.findall(r"^\| ([\w ,`]+) \| program \|( [\d,]+\.\d \|){2}( [\d,]+ \|){2}$", rows, re.MULTILINE)
+    assert [row[0] for row in found] == ["follows", "follows, `elapsed`", "plan"]
 
 
 # What is wrong, the commands of the program that is run, and a pattern of the error.
@@ -118,3 +128,15 @@ def test_the_baseline_has_the_results_of_zsched_and_of_the_reference(zsched):
     assert built.returncode == 0, built.stderr
     assert ran("--check", "--divisor", "100", "--zsched", zsched)[0] == 0
     assert [text for text in REJECTED if run(bench.BASELINE, text) != reference.answer(text)] == []
+
+
+def test_calls_are_measured_beside_other_packages(library, tmp_path, monkeypatch):
+    monkeypatch.setenv("ZSCHED_LIBRARY_DIR", str(library))
+    module = tmp_path / "usr/lib/python3/dist-packages/backoff.py"
+    module.parent.mkdir(parents=True)
+    module.write_text("expo = None\n\n\ndef on_exception(*_, max_tries):\n    return lambda function: function\n")
+    status, output, _ = run_here(lambda: calls.main(["--root", str(tmp_path), "--count", "9", "Python"]), ["calls.py"])
+    assert status == 0
+    assert re.fullmatch(r"\| \| .*\n\|.*\n\| Python \| [\d,]+ \| (tenacity \d+, )?backoff \d+ \|\n", output)
+    need("cargo", "node", "go")
+    assert [calls.others(name, tmp_path, 9) for name in ["Rust", "Node", "Go"]] == ["not on this machine"] * 3

@@ -1,6 +1,7 @@
 """The bindings: one client in each language (tests/clients/) steps the same schedules, fails with the same faults and
 retries by the same policies. What only one binding has is tested by a program in its language
-(tests/clients/only_in_*, OnlyInJava.java; tests/test_python.py). The example of each binding really waits."""
+(tests/clients/only_in_*, inside_go_test.go, OnlyInJava.java; tests/test_python.py). The example of each binding really
+waits."""
 import pathlib
 import re
 import shutil
@@ -26,11 +27,15 @@ FAULTS = {text.encode(): fault for text, fault in rows("faulty_texts.jsonl")}
 RETRIES = rows("retries.jsonl")
 # The forms of a retry, and the languages that have each.
 FORMS = {"retry": LANGUAGES, "later": ["Python", "Java", "Rust"], "loop": ["Python"], "later_loop": ["Python"]}
+LIMITED = {"limited": ["Go", "Node", "Java", "Rust"], "limited_later": ["Python", "Java", "Rust"],
+           "limited_loop": ["Python"], "limited_later_loop": ["Python"]}
+GOOD = {"good": ["Python", "Go", "Node", "Java", "Rust"], "good_later": ["Python"]}
 # Policies of which each attempt fails at once.
 PROMISED = rows("promised.jsonl")
 # A policy, the code of all failures; a jitter in percent, a least wait in milliseconds, the code that isn't retried,
-# and 1 for a shared budget; how many attempts there are at least and most, and the least and most milliseconds of each
-# wait. Steps are made at the moments that are planned without jitter, so it makes no more attempts.
+# 1 for a shared budget, and the longest least wait, an hour if it isn't there; how many attempts there are at least and
+# most, and the least and most milliseconds of each wait. Steps are made at the moments that are planned without jitter,
+# so it makes no more attempts.
 OPTIONS = rows("retry_options.jsonl")
 MANY, TIMES, BYTES_A_STEP = 1_000_000, 1.5, 4
 
@@ -98,6 +103,33 @@ def test_a_retry_waits_as_its_policy_says(client, name, text, code, times, wante
         assert ended == wanted and are_kept(waits, moments)
 
 
+def forms(names):
+    return [pytest.param(*it.values, command, marks=it.marks) for command in names for it in named(*names[command])]
+
+
+@pytest.mark.parametrize("name, command", forms(LIMITED))
+def test_an_attempt_ends_at_its_limit_and_none_begins_beside_it(client, name, command):
+    """An attempt without a limit takes 5 s."""
+    for times, wanted in [(2, "done"), (9, "503")]:
+        line, = client(name).says([request(command, "(spaced(20) && recurs(2))", 503, times, 200)])
+        ended, *words = line.split()
+        begins, ends = ([int(it) / 1000 for it in words[place::2]] for place in [0, 1])
+        assert ended == wanted and len(begins) == len(ends) == 3
+        slow = [end - begin for begin, end in zip(begins, ends)][:times]
+        # The limit of the first begins while a virtual machine loads what it needs.
+        assert all(100 <= it < 4000 for it in slow), slow
+        assert all(begin >= end + 19 for begin, end in zip(begins[1:], ends)), words
+
+
+@pytest.mark.parametrize("name, command", forms(GOOD))
+def test_a_call_that_does_not_fail_takes_no_longer_by_a_long_policy(client, name, command):
+    """To compile its 255 nodes takes some hundred microseconds."""
+    long = "recurs(9)"
+    for _ in range(7):
+        long = f"({long} && {long})"
+    assert min(int(line) for line in client(name).says([request(command, long, 500)] * 5)) < 40_000
+
+
 def least_moments(text):
     """The least milliseconds at which the attempts begin, by the reference: each counts as 1 millisecond."""
     schedule, pairs, known, begins = reference.read_schedule(text.encode()), [], {}, [0]
@@ -107,8 +139,7 @@ def least_moments(text):
     return begins[:-1]
 
 
-@pytest.mark.parametrize("name, command", [pytest.param(*it.values, command, marks=it.marks)
-                                           for command, names in FORMS.items() for it in named(*names)])
+@pytest.mark.parametrize("name, command", forms(FORMS))
 def test_what_fails_at_once_is_retried_within_the_bounds_of_its_policy(client, name, command):
     bounds = client("C").says(request("bounds", text, 1000) for text in PROMISED)
     lines = client(name).says(request(command, text, 7, 10 ** 6) for text in PROMISED)
@@ -195,9 +226,10 @@ def test_the_example_in_go_waits_for_its_server_and_its_tests_pass(library, tmp_
     folder, variables = tmp_path / "go", go_variables(built_library(library))
     shutil.copytree(BINDINGS / "go", folder)
     # Go's tests lie in the folder of what they test.
-    shutil.copy(CLIENTS / "only_in_go_test.go", folder)
+    for tests in CLIENTS.glob("*_go_test.go"):
+        shutil.copy(tests, folder)
     ran(["go", "vet", "./..."], folder, **variables)
-    assert ran(["go", "test", "-v", "."], folder, **variables).count("--- PASS: ") == 8
+    assert ran(["go", "test", "-v", "."], folder, **variables).count("--- PASS: ") == 12
     ran(["go", "build", "-o", tmp_path / "example", "./example"], folder, **variables)
     assert ran(["./example"], tmp_path, LD_LIBRARY_PATH=library) == READY
 
@@ -207,7 +239,7 @@ def test_the_example_in_node_waits_for_its_server_and_its_tests_pass(library, tm
     addon = {"ZSCHED_NODE": tmp_path / "node_modules/zsched/zsched.node"}
     assert ran(["node", BINDINGS / "node" / "example.js"], tmp_path, **addon) == READY
     shutil.copy(CLIENTS / "only_in_node.test.js", tmp_path)
-    assert "# pass 12\n" in ran(["node", "--test", "only_in_node.test.js"], tmp_path)
+    assert "# pass 14\n" in ran(["node", "--test", "only_in_node.test.js"], tmp_path)
 
 
 def crate(library, tmp_path):
@@ -224,7 +256,8 @@ def test_the_example_in_rust_waits_for_its_server_and_its_tests_pass(library, tm
     folder, variables = crate(library, tmp_path)
     cargo = ["cargo", "--quiet", "--offline"]
     assert ran([*cargo, "run", "--example", "retry"], folder, **variables) == READY
-    assert re.findall(r"\d+ passed", ran([*cargo, "test"], folder, **variables)) == ["0 passed", "9 passed", "6 passed"]
+    said = ran([*cargo, "test"], folder, **variables)
+    assert re.findall(r"\d+ passed", said) == ["0 passed", "12 passed", "6 passed"]
     ran([*cargo, "check", "--no-default-features"], folder, **variables)
 
 

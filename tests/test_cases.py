@@ -3,17 +3,17 @@
 A folder tests/cases/TOOL/NAME has `cmd`, a few lines for bash. They run in a copy of the folder, with the commands of
 build/ and tools/ and the built programs first in PATH, and with ZSCHED, ZSCHED_BOUNDS, ZSCHED_POPULATION and TOP set.
 The files `stdin`, `stdout`, `stderr` (none: empty) and `status` (none: 0) say what it gets and what it has to give.
-Each file of `out/` is one that the run has to write. Each line of `needs` is a program that few machines have, and its
-Debian package: such a case is marked `full`. A plan has its report beside it; it runs as it is, and under twelve cuts.
-Expected files are worked out by hand or by another program. `--update` prints what differs, and writes what you
-accept."""
+Each file of `out/` is one that the run has to write. With a file `library` it gets ZSCHED_LIBRARY. Each line of `needs`
+is a program that few machines have, and its Debian package: such a case is marked `full`. A plan has its report beside
+it; it runs as it is, and under twelve cuts. Expected files are worked out by hand or by another program. `--update`
+prints what differs, and writes what you accept."""
 import difflib
 import os
 import shutil
 
 import pytest
 
-from support import TOP, difference, plans_with_reports, recut, report_beside, run
+from support import TOP, difference, plans_with_reports, recut, report_beside, rows, run
 
 CASES = sorted(path.parent for path in TOP.glob("tests/cases/*/*/cmd"))
 CUTS = [None, *[(workers, grain) for workers in [1, 2, 7, 64] for grain in [1, 3, 10000]]]
@@ -43,6 +43,13 @@ def found(case, room, programs):
     files = [name for name in wanted(case) if name.startswith("out/")]
     given = {"status": b"" if status == 0 else f"{status}\n".encode(), "stdout": output, "stderr": errors}
     return given | {name: content(room / name.removeprefix("out/")) for name in files}
+
+
+def differing(case, given):
+    """The streams and files of a run that aren't as wanted, each with both texts."""
+    asked = wanted(case)
+    asked["status"] = b"" if asked["status"].strip() in [b"", b"0"] else asked["status"].strip() + b"\n"
+    return {name: (asked[name], given[name]) for name in asked if asked[name] != given[name]}
 
 
 def changes(name, before, now):
@@ -80,12 +87,24 @@ def test_a_case_gives_what_its_files_say(case, programs, tmp_path, request, caps
             pytest.skip(f"{name} isn't installed (Debian: {package})")
     if case.parent.name in ["install-library", "release"]:
         programs = programs | {"ZSCHED_LIBRARY_DIR": str(request.getfixturevalue("library"))}
-    asked, given = wanted(case), found(case, tmp_path / "case", programs)
-    asked["status"] = b"" if asked["status"].strip() in [b"", b"0"] else asked["status"].strip() + b"\n"
-    differing = {name: (asked[name], given[name]) for name in asked if asked[name] != given[name]}
-    if differing and request.config.getoption("--update"):
-        update(case, differing, capsys)
-    assert not differing, "\n".join(changes(name, *texts) for name, texts in differing.items())
+    if (case / "library").is_file():
+        programs = programs | {"ZSCHED_LIBRARY": str(request.getfixturevalue("library") / "libzsched.so")}
+    others = differing(case, found(case, tmp_path / "case", programs))
+    if others and request.config.getoption("--update"):
+        update(case, others, capsys)
+    assert not others, "\n".join(changes(name, *texts) for name, texts in others.items())
+
+
+# What is wrong, the file of tools/zsched_tools that has it, the right text, the wrong one, and a case that must fail.
+@pytest.mark.parametrize("name, file, right, wrong, case", rows("tool_edits.jsonl"))
+def test_a_tool_with_a_planted_fault_fails_a_case(name, file, right, wrong, case, programs, tmp_path):
+    shutil.copytree(TOP / "tools", tmp_path / "tools")
+    (tmp_path / "docs").symlink_to(TOP / "docs")
+    path, case = tmp_path / "tools/zsched_tools" / file, TOP / "tests/cases" / case
+    assert path.read_text().count(right) == 1
+    path.write_text(path.read_text().replace(right, wrong))
+    given = found(case, tmp_path / "case", programs | {"PATH": f"{tmp_path}/tools:{programs['PATH']}"})
+    assert differing(case, given) and b"Traceback" not in given["stderr"] + given["stdout"]
 
 
 @pytest.mark.parametrize("cut", CUTS, ids=lambda cut: "as_it_is" if cut is None else f"workers_{cut[0]}_grain_{cut[1]}")

@@ -84,7 +84,7 @@ def test_a_new_operator_has_the_files_of_a_leaf():
 
 
 def test_the_readme_shows_the_sample(zsched):
-    plan, report = re.search(r"```json\n(.*?)```\n```\n(.*?)```", README, re.DOTALL).groups()
+    plan, report = re.search(r"```json\n(.*?)```\n```console\n\$.*?\n(job .*?)```", README, re.DOTALL).groups()
     sample = TOP / "examples" / "checkout.json"
     assert json.loads(plan) == json.loads(sample.read_bytes())
     assert report == sample.with_suffix(".json.stdout").read_text()

@@ -21,18 +21,16 @@ from zsched_tools.explain import all_faults, command
 PLACE = re.compile(r"^ *--> plan\.json:(\d+):(\d+)$", re.M)
 
 
-def told(look, status, line):
+def told(data, status, line):
     """What the command writes on a plan on which the program ended so: status, output and errors."""
-    return run_here(lambda: command.tell("plan.json", look, status, line), ["zsched-explain"])
+    return run_here(lambda: command.tell("plan.json", data, status, line), ["zsched-explain"])
 
 
 @pytest.mark.parametrize("marked, fault, word", [it[1:] for it in MISTAKES], ids=[it[0] for it in MISTAKES])
 def test_a_mistake_is_shown_at_its_place(marked, fault, word, zsched):
     data, line, column = split(marked)
     assert program.run(zsched, data) == (2, b"", f"zsched: {fault}\n".encode())
-    look = command.Look(data)
-    look.start()
-    ended, output, errors = told(look, 2, f"zsched: {fault}\n")
+    ended, output, errors = told(data, 2, f"zsched: {fault}\n")
     assert (ended, output, errors.partition("\n")[0]) == (2, "", f"zsched: {fault}")
     assert PLACE.findall(errors) == [(str(line), str(column))]
     assert word in "".join(re.findall(r"^ *= help: (.*)$", errors, re.M))
@@ -100,14 +98,14 @@ def test_each_changed_plan_that_is_rejected_gets_a_place(zsched, two_gigabytes):
     plans = [path.read_bytes() for path in sorted(TOP.glob("examples/*.json"))]
     for _ in range(count):
         data = mutated(chance, chance.choice(plans), chance.choice([1, 1, 1, 2, 3]))
-        look, status, line = command.Look(data), None, None
+        status, line = None, None
         with contextlib.suppress(subprocess.TimeoutExpired):
-            status, line = command.refusal(zsched, look, 5)
+            status, line = command.outcome(zsched, data, 5)
         ends.append(status)
         if status == 0:
-            assert told(look, 0, line) == (0, "plan.json: no fault\n", ""), data
+            assert told(data, 0, line) == (0, "plan.json: no fault\n", ""), data
         elif status == 2:
-            ended, output, errors = told(look, 2, line)
+            ended, output, errors = told(data, 2, line)
             assert (ended, output, errors.split("\n")[0] + "\n") == (2, "", line), data
             assert "the fault is in" not in errors, data
             [(row, column)] = PLACE.findall(errors)
@@ -132,51 +130,10 @@ def test_the_fault_at_the_end_of_a_long_plan_is_shown(kind, last, fault, zsched)
         front = '{"jobs":[],"ticks":[' + "".join(f"{tick}," for tick in range(10**14, 10**14 + 10**6))
     data, _, column = split(front + last) if fault else ((front + last).encode(), 1, 0)
     assert 16_000_000 <= len(data) <= program.MAX_BYTES
-    look = command.Look(data)
-    ended, output, errors = told(look, *command.refusal(zsched, look))
+    ended, output, errors = told(data, *command.outcome(zsched, data))
     said = f"zsched: {fault}".replace("job N", f"job {number}")
     assert (ended, output, errors.split("\n")[0]) == ((2, "", said) if fault else (0, "plan.json: no fault\n", ""))
     assert PLACE.findall(errors) == ([("1", str(column))] if fault else [])
-
-
-def alike_jobs(count, schedule="(exponential({}) && recurs(3))"):
-    """Jobs that differ only in their names and their numbers."""
-    return [job(f"j{at}", schedule.format(at + 1), script=f'"script":[{{"ms":{at + 5},"err":503}}]',
-                more=f',"start":{at + 1}') for at in range(count)]
-
-
-def test_of_jobs_that_are_alike_the_first_one_remains():
-    found = all_faults.fewer(plan([*alike_jobs(20), job("last")]))
-    assert (found.numbers, found.data) == ([0, 20], plan([alike_jobs(1)[0], job("last")]))
-    assert found.line("zsched: job 1: wrong shape\n") == "zsched: job 20: wrong shape\n"
-    assert found.line("zsched: plan: out of range\n") == "zsched: plan: out of range\n"
-
-
-LIKE = alike_jobs(8)[7]
-
-
-@pytest.mark.parametrize("changed, are_first_ones", rows("other_jobs.jsonl"))
-def test_a_job_that_may_have_a_different_fault_remains(changed, are_first_ones):
-    numbers = all_faults.fewer(plan([*alike_jobs(7), changed, *alike_jobs(20)[8:]])).numbers
-    assert 7 in numbers and (numbers == [0, 7] or not are_first_ones)
-
-
-@pytest.mark.parametrize("data", [
-    ONE_JOB, plan([job("a"), job("b", "recurs(3 )"), job("c", "recurs( 3)")]), plan(alike_jobs(10001)),
-    b"", b"[]", b"{}", b'{"jobs":7}', plan(alike_jobs(20))[:-1], plan(alike_jobs(20)) + b"\xff",
-    plan([*alike_jobs(20), LIKE.replace('"start":8', '"start":08')])], ids=range(10))
-def test_a_plan_with_few_jobs_alike_or_too_many_or_no_plan_is_run_as_it_is(data):
-    assert all_faults.fewer(data) is None
-
-
-def test_the_fault_of_fewer_jobs_is_that_of_all(zsched):
-    for name, marked, fault, _ in MISTAKES:
-        found = re.search(r'"jobs": \[\n    (.*)\n  \]\n\}\n$', split(marked)[0].decode(errors="replace"), re.S)
-        if found and fault.startswith("job 0: "):
-            data = plan([*alike_jobs(9), found[1], *alike_jobs(18)[9:]])
-            fewer, whole = all_faults.fewer(data), command.outcome(zsched, data)
-            assert whole == (2, f"zsched: job 9{fault.removeprefix('job 0')}\n"), name
-            assert not fewer or len(fewer.numbers) <= 14 and command.fault_of_fewer(zsched, data) == whole, name
 
 
 def test_each_mistake_is_the_first_of_all_faults(zsched):

@@ -1,9 +1,13 @@
 """The gate can fail: faults that are planted in copies of it and in the output of the toolchain, each of which it must
 find."""
 import os
+import pathlib
+import re
 import shutil
+import signal
 import subprocess
 import sys
+import time
 
 import pytest
 
@@ -62,6 +66,14 @@ def test_floors_hold_for_the_files_that_run(tree):
     assert passes(tree, "tests/test_b.py")
 
 
+def test_check_installs_each_package_that_a_test_names():
+    listed = {line.split()[0] for line in (TOP / "tests/packages.txt").read_text().splitlines() if line.strip()}
+    named = {it for path in TOP.glob("tests/*.py")
+             for it in re.findall(r"\(Debian: ([a-z+-]+[\w+.-]*)\)", path.read_text())}
+    named |= {line.split()[1] for path in TOP.glob("tests/cases/*/*/needs") for line in path.read_text().splitlines()}
+    assert len(named) > 9 and named - listed == set()
+
+
 @pytest.mark.parametrize("name, said, status", rows("said_of_an_edit.jsonl"))
 def test_an_edit_that_the_toolchain_passes_over_fails_the_proofs(name, said, status, tree):
     (tree / "crates/zsched_c/must-fail").mkdir(parents=True)
@@ -73,3 +85,36 @@ def test_an_edit_that_the_toolchain_passes_over_fails_the_proofs(name, said, sta
                            env=os.environ | {"PATH": f"{tree}:{os.environ['PATH']}"})
     assert ended.returncode == status, ended
     assert ended.stdout.splitlines()[-1] == ("2 passed, 0 failed" if status == 0 else "1 passed, 1 failed")
+
+
+@pytest.mark.parametrize("part, word", [("proofs", "ci"), ("quick", "check")])
+def test_a_gate_that_is_ended_leaves_no_process(part, word, tree):
+    """The toolchain has started two processes, one in a session of its own. `nohup` ignores the end of a terminal,
+    and `timeout` sends two signals."""
+    for name in ["gate.py", "quick.py"]:
+        shutil.copy(TOP / "tests" / name, tree / "tests")
+    for name in ["zsched", "zsched_bounds"]:
+        (tree / "crates" / name).mkdir(parents=True)
+    (tree / "crates.txt").write_text("zsched:\nzsched_bounds:\nzsched_c staticlib:\n")
+    executable(tree / "rt", f"[ $1 != {word} ] || {{ setsid sleep 300 & sleep 300 & echo > begun; wait; }}")
+    variables = os.environ | {"PATH": f"{tree}:{os.environ['PATH']}", "PLANTED": str(tree)}
+    with subprocess.Popen(["nohup", sys.executable, "tests/gate.py", part], cwd=tree, env=variables,
+                          stdout=subprocess.DEVNULL, stderr=subprocess.DEVNULL) as running:
+        while not [*tree.rglob("begun")]:
+            assert running.poll() is None
+            time.sleep(0.05)
+        running.send_signal(signal.SIGHUP)
+        time.sleep(0.5)
+        for _ in range(2):
+            running.send_signal(signal.SIGTERM)
+        assert running.wait(60) == 128 + signal.SIGTERM
+    left = [path.parent.name for path in pathlib.Path("/proc").glob("[0-9]*/environ")
+            if f"PLANTED={tree}".encode() in _read(path)]
+    assert left == []
+
+
+def _read(path):
+    try:
+        return path.read_bytes()
+    except OSError:
+        return b""

@@ -1,7 +1,8 @@
 """What runs cost and how that grows: instructions, the peak memory in bytes, and allocations.
 
-A row is an input of n and of 4n things, such as attempts or jobs. What no things cost is subtracted from both. The larger
-run may take at most 4.4 times the instructions and bytes of the smaller, and each further thing at most the row's limits.
+A row is an input of n and of 4n things, such as attempts or jobs. What no things cost is subtracted from both. The
+larger run may take at most 4.4 times the instructions and bytes of the smaller, and each further thing at most the
+row's limits.
 Bytes and allocations are exact, their limits a twentieth above; instructions have more room, and so much in rows that
 catch survivors that a program without proofs passes. valgrind's dhat counts; `-rP` shows what each row costs."""
 import json

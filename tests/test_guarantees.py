@@ -88,3 +88,9 @@ def test_the_files_that_the_page_names_exist():
     named = " ".join(guarantees.quoted(guarantees.PAGE)).split()
     assert [name for name in named if FILE.fullmatch(name) and "NAME" not in name and "File" not in name
             and not any((home / name).is_file() for home in homes)] == []
+
+
+def test_the_page_lists_the_files_to_believe_and_they_name_no_constant():
+    files, named = guarantees.believed()
+    assert all(guarantees.wrapped(lines) in guarantees.PAGE for lines in [files, named])
+    assert re.findall(r"`[A-Z]+(?:_[A-Z]+)*`", " ".join(named)) == []

@@ -2,7 +2,6 @@
 pictures. What the command prints, and its faults, are the cases in tests/cases/zsched-outage."""
 import io
 import json
-import random
 import re
 import sys
 import time
@@ -15,7 +14,7 @@ from hypothesis import strategies as st
 import reference
 from browser import framed
 from reports import jobs_of
-from support import TOP, examples, job, plan, run, run_here
+from support import TOP, draw, examples, job, plan, run, run_here
 from zsched_tools import drawn, program
 from zsched_tools.drawing import text_width
 from zsched_tools.outage import certificate, command, curve, panels, scenario, search, world
@@ -86,8 +85,11 @@ SCENARIOS = st.fixed_dictionaries({
         "slow": st.sampled_from([{"ms": 800, "err": 504}, {"ms": 700, "ok": 200}])}),
     "clients": st.fixed_dictionaries({"number": st.integers(1, 6), "within": st.sampled_from([0, 500, 2000])}),
     "policies": st.fixed_dictionaries({"steady": st.sampled_from(POLICIES)}),
-    "budget": st.one_of(st.none(), st.fixed_dictionaries(
-        {"like": st.sampled_from(["grpc", "aws"]), "tokens": st.integers(5, 40)}))})
+    "budget": st.one_of(
+        st.none(), st.fixed_dictionaries({"like": st.sampled_from(["grpc", "aws"]), "tokens": st.integers(5, 40)}),
+        st.fixed_dictionaries({"like": st.just("envoy"), "percent": st.integers(0, 90), "least": st.integers(0, 2)}),
+        st.fixed_dictionaries({"like": st.just("finagle"), "percent": st.integers(0, 90), "ttl": st.integers(1, 3000),
+                               "per_second": st.integers(0, 2)}))})
 
 
 def next_begin(found, client, schedule, kinds):
@@ -100,14 +102,18 @@ def next_begin(found, client, schedule, kinds):
 
 def decided(found, schedules):
     """The kinds of each client's attempts: the earliest event, an end (0) or a begin (1), is decided first."""
-    service, bucket = Service(found.windows), Bucket(found.budget) if found.budget else None
+    service, bucket = Service(found.windows), world.BUDGETS[found.budget.like](found.budget) if found.budget else None
     kinds = [[] for _ in schedules]
     events = [(next_begin(found, client, schedule, [])[0], 1, client) for client, schedule in enumerate(schedules)]
     while events := [event for event in events if event[0] is not None]:
         moment, is_begin, client = event = min(events)
         events.remove(event)
+        if bucket and not is_begin:
+            bucket.ended(len(kinds[client]) == 1)
         if is_begin:
             kinds[client].append(service.kind(moment))
+            if bucket:
+                bucket.began(len(kinds[client]) == 1, moment)
             end = moment + found.outcomes[kinds[client][-1]].ms
             events += [(end, 0, client)] if end <= found.horizon else []
         elif found.outcomes[kinds[client][-1]].is_ok:
@@ -115,7 +121,7 @@ def decided(found, schedules):
                 bucket.succeeded(len(kinds[client]) == 1)
         else:
             begin, is_done = next_begin(found, client, schedules[client], kinds[client])
-            if bucket and not bucket.lets_retry(not is_done) and not is_done:
+            if bucket and not bucket.lets_retry(not is_done, moment) and not is_done:
                 kinds[client][-1] += DENIED
             else:
                 events.append((begin, 1, client))
@@ -165,6 +171,28 @@ def test_a_bucket_gets_tokens_back_and_is_never_more_than_full():
     assert bucket.tokens == 4000
 
 
+def test_a_share_of_what_runs_and_of_what_starts():
+    share = world.Share(scenario.Budget("envoy", 0, 50_000, 1, 0))
+    for _ in range(5):
+        share.began(True, 0)
+    # Of five that run half are two; of one that ended four run.
+    assert [share.lets_retry(True) for _ in range(3)] == [True, True, False] and not share.lets_retry(False)
+    share.ended(True)
+    share.began(False, 9)
+    share.ended(False)
+    # One of the two retries ended. Of four that run half are two, and of one the least number is one.
+    assert [share.lets_retry(True), share.lets_retry(True)] == [True, False]
+    for is_first in [True, True, True, False]:
+        share.ended(is_first)
+    assert [share.retries, share.lets_retry(True)] == [1, False]
+    deposits = world.Deposits(scenario.Budget("finagle", 2000, 1000, 2000, 0, 100))
+    for moment in [0, 50]:
+        deposits.began(True, moment)
+    # Two starts pay for one retry, and the reserve for another. At 100 the first start is forgotten; at 150 all is.
+    assert [deposits.lets_retry(True, 60) for _ in range(3)] == [True, True, False]
+    assert [deposits.lets_retry(True, moment) for moment in [100, 159, 160]] == [False, False, True]
+
+
 def test_a_report_with_outcomes_of_another_scenario_is_no_certificate():
     endings = [Ending("succeeded", 200, 1200, 3), Ending("succeeded", 200, 2600, 4), Ending("succeeded", 200, 3300, 4)]
     assert [it.ending for it in certificate.certified(read(SMALL), endings, [REPORT.encode()])] == endings
@@ -176,15 +204,19 @@ def test_a_report_with_outcomes_of_another_scenario_is_no_certificate():
         certificate.certified(read(SMALL), [*endings[:2], Ending("succeeded", 200, 2600, 3)], [early.encode()])
 
 
-def test_rand_is_between_its_bounds_and_takes_each_value():
-    source = random.Random(1)
-    assert {drawn.drawn(source, 3, 6) for _ in range(200)} == {3, 4, 5, 6}
-    assert drawn.drawn(source, 7, 7) == 7
+def test_a_draw_is_between_its_bounds_and_takes_each_value():
+    of_part, every = drawn.seeded(1)(0), 2**64 - 1
+    assert {of_part(number, 3, 6) for number in range(200)} == {3, 4, 5, 6}
+    assert {of_part(number, 7, 7) for number in range(9)} == {7}
+    assert of_part(0, 0, every) == draw(1, 0, 0, 0, 0, every) > 2**55
+    # The first numbers of SplitMix64 from 1234567, as its authors publish them.
+    assert [drawn._mixed(1234567 + number * 0x9e3779b97f4a7c15) for number in range(3)] == [
+        6457827717110365317, 3203168211198807973, 9817491932198370423]
 
 
 @pytest.mark.parametrize("count", [1, 2, 3, 5, 24, drawn.MOST_DELAYS])
 def test_jitter_is_a_list_of_delays_below_the_cap(zsched, count):
-    text = drawn.Policy(f"jitter(100, 1000, {count})").schedule(random.Random(2))
+    text = drawn.Policy(f"jitter(100, 1000, {count})").schedule(drawn.seeded(2))
     delays = list(map(int, re.findall(r"spaced\((\d+)\)", text)))
     assert len(delays) == count and all(delay <= min(1000, 100 * 2**number) for number, delay in enumerate(delays))
     # The program waits exactly these, one after another, and is then done.
@@ -193,22 +225,34 @@ def test_jitter_is_a_list_of_delays_below_the_cap(zsched, count):
     assert (ran.waits, ran.how, ran.value) == (delays, "failed", "5")
 
 
-def test_draws_come_from_the_seed_and_the_name_alone():
-    policies = {"a": "exponential(rand(1, 1000000))", "b": "exponential(rand(1, 1000000))", "c": "recurs(3)"}
+def test_draws_come_from_the_seed_and_the_client_alone():
+    policies = {"a": "exponential(rand(1, 1000000))", "b": "exponential( rand(1, 1000000))", "c": "recurs(3)"}
     one, other = (read({**SMALL, "policies": policies, "seed": seed}) for seed in [0, 1])
     alone = read({**SMALL, "policies": {"b": policies["b"]}})
-    assert search.schedules_of(one, "b") == search.schedules_of(alone, "b") != search.schedules_of(one, "a")
-    assert search.schedules_of(other, "a") != search.schedules_of(one, "a")
+    assert search.schedules_of(one, "b") == search.schedules_of(alone, "b")
+    assert [it.replace(" ", "") for it in search.schedules_of(one, "b")] == search.schedules_of(one, "a")
+    assert not set(search.schedules_of(other, "a")) & set(search.schedules_of(one, "a"))
     assert len(set(search.schedules_of(one, "a"))) == 3
-    # The first number of Python's generator for this seed, as it always will be.
-    assert search.schedules_of(one, "a")[0] == f"exponential({1 + int(random.Random('0 a').random() * 10**6)})"
+    assert search.schedules_of(one, "a") == [f"exponential({draw(0, it, 0, 0, 1, 10**6)})" for it in range(3)]
+
+
+def test_policies_that_are_compared_get_the_same_draws(zsched):
+    texts = ["(spaced(900) && recurs(5)) jitter full", "x: ( spaced(900)  && recurs(7))jitter  full",
+             "(spaced(900) && recurs(5)) jitter equal", "(jitter(900, 900, 5) && spaced(rand(1, 5)))"]
+    schedules = [drawn.Policy(text, str(zsched)).schedule(drawn.seeded(7)) for text in texts]
+    found = [list(map(int, re.findall(r"spaced\((\d+)\)", text))) for text in schedules]
+    # The second calculation draws the k-th wait of the random part 0.
+    assert found[0] == [draw(7, 0, 0, number, 0, 900) for number in range(5)]
+    assert found[1] == [draw(7, 0, 0, number, 0, 900) for number in range(7)]
+    assert found[2] == [draw(7, 0, 0, number, 450, 900) for number in range(5)]
+    assert found[3] == found[0] + [draw(7, 0, 1, 0, 1, 5)]
 
 
 @pytest.mark.parametrize("within, size, marked", [("recur(", 5, "recur"), ("0000", 1, "rand(100000, 100000)")])
 def test_a_cause_after_a_draw_is_at_its_place_in_the_policy(within, size, marked):
     policy = drawn.Policy("(spaced(rand(100000, 100000)) && recur(3))")
-    at = policy.schedule(random.Random(0)).index(within)
-    cause = policy.cause_at(random.Random(0), Cause(at, size, "no"))
+    at = policy.schedule(drawn.LOW).index(within)
+    cause = policy.cause_at(drawn.LOW, Cause(at, size, "no"))
     assert policy.text[cause.at:cause.at + cause.size] == marked
 
 
@@ -251,9 +295,11 @@ def test_a_peak_is_the_greatest_number_within_any_time_of_its_length(begins, spa
 
 def test_a_share_is_the_least_value_that_so_many_do_not_exceed():
     hundred = list(range(1, 101))
-    assert [curve.share_of([5], percent) for percent in [50, 95, 100]] == [5, 5, 5]
-    assert [curve.share_of(hundred, percent) for percent in [50, 95, 99, 100]] == [50, 95, 99, 100]
-    assert (curve.share_of([1, 2, 3, 4], 50), curve.share_of([], 50)) == (2, None)
+    assert [curve.share_of([5], percent, 1) for percent in [50, 95, 100]] == [5, 5, 5]
+    assert [curve.share_of(hundred, percent, 100) for percent in [50, 95, 99, 100]] == [50, 95, 99, 100]
+    assert (curve.share_of([1, 2, 3, 4], 50, 4), curve.share_of([], 50, 0)) == (2, None)
+    # Of eight clients four were never served: half of all were by the fourth, and no more.
+    assert [curve.share_of([1, 2, 3, 4], percent, 8) for percent in [12, 50, 51, 95, 100]] == [1, 4, None, None, None]
 
 
 def test_pictures_are_whole_and_have_all_policies(zsched):
@@ -266,7 +312,7 @@ def test_pictures_are_whole_and_have_all_policies(zsched):
         assert all(policy in text for policy in DRAWN["policies"].values())
         assert min(map(int, re.findall(r"font-size:(\d+)px", text))) >= 11
     assert (drawing.count('class="down"'), page.count("<svg")) == (2, 2)
-    said = r">\d+ attempts; peak \d+ a second, \d+ in 100 ms; \d+ of 40 served, the last at [^<]+<title>"
+    said = r">\d+ attempts; peak \d+ a second, \d+ in 100 ms; (?!40)\d+ of 40 served<title>"
     assert len(re.findall(said, drawing)) == 2
     # The title has all its words in a narrow picture too, each line within its width.
     title = re.findall('class="title"[^>]*>([^<]+)', picture(found, figures, 360))
@@ -308,7 +354,7 @@ def test_long_names_leave_all_figures_in_sight(zsched, tmp_path):
     (tmp_path / "page.html").write_text("".join(panels.curve_page(*found)))
     assert framed(tmp_path, ["page.html"], [360, 400, 1280], """page => {
   const right = page.querySelector(".table").getBoundingClientRect().right, cells = [...page.querySelectorAll("td")];
-  return [cells.length, cells.filter(it => it.getBoundingClientRect().right > right + 1).length]; }""") == [[36, 0]] * 3
+  return [cells.length, cells.filter(it => it.getBoundingClientRect().right > right + 1).length]; }""") == [[38, 0]] * 3
 
 
 @pytest.mark.parametrize("is_terminal", [True, False])

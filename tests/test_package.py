@@ -48,17 +48,84 @@ def test_a_package_names_the_repository_in_which_it_is(name, form):
 
 def test_a_program_has_the_types_of_the_package_for_node(tmp_path):
     need("tsc")
-    declared, program = [shutil.copy(it, tmp_path / it.name) for it in [BINDINGS / "node/zsched.d.ts", CLIENTS / "typed.ts"]]
-    names = {*re.findall(r"^(?:export \w+ |  (?:readonly |get )?)(\w+).*[^,]$", declared.read_text(), re.M)} - {"constructor", "private"}
+    declared, program = [shutil.copy(it, tmp_path / it.name)
+                         for it in [BINDINGS / "node/zsched.d.ts", CLIENTS / "typed.ts"]]
+    names = {*re.findall(r"^(?:export \w+ |  (?:readonly |get )?)(\w+).*[^,]$", declared.read_text(), re.M)}
+    names -= {"constructor", "private"}
     assert len(names) > 40 and names <= set(re.findall(r"\w+", program.read_text()))
     ran(["tsc", "--noEmit", "--strict", "--target", "es2020", "--lib", "es2020,dom", program], tmp_path)
 
 
 def test_a_program_has_the_types_of_the_package_for_python(tmp_path):
     need("mypy")
-    names = re.findall(r'"(\w+)"', (BINDINGS / "python/zsched/__init__.py").read_text().split("__all__")[1].split("]")[0])
+    text = (BINDINGS / "python/zsched/__init__.py").read_text()
+    names = re.findall(r'"(\w+)"', text.split("__all__")[1].split("]")[0])
     assert len(names) > 10 and set(names) <= set(re.findall(r"\w+", (CLIENTS / "typed.py").read_text()))
-    ran(["mypy", "--strict", "--cache-dir", tmp_path, CLIENTS / "typed.py"], tmp_path, MYPYPATH=BINDINGS / "python")
+    page, = re.findall(r"```python\n(.*?)```", (BINDINGS / "python/README.md").read_text(), re.S)
+    assert "statistics" in page and "with_" in page and "bounds" in page
+    (tmp_path / "page.py").write_text(page)
+    # The oldest Python that the package is for.
+    version = re.search(r'requires-python = ">=(.*)"', (BINDINGS / "python/pyproject.toml").read_text())[1]
+    for older in [[], ["--python-version", version]]:
+        ran(["mypy", "--strict", "--cache-dir", tmp_path / "cache", *older, CLIENTS / "typed.py", "page.py",
+             BINDINGS / "python/zsched"], tmp_path, MYPYPATH=BINDINGS / "python")
+
+
+def refused(words, room, **variables):
+    """What a command that has to fail says."""
+    ended = subprocess.run([str(it) for it in words], cwd=room, capture_output=True, text=True, check=False,
+                           env=CLEAN | {name: str(it) for name, it in variables.items()})
+    assert ended.returncode != 0
+    return ended.stdout + ended.stderr
+
+
+@pytest.mark.parametrize("variables", [{"CGO_ENABLED": "0"}, {"GOOS": "darwin", "GOARCH": "arm64"}])
+def test_a_build_in_go_says_what_it_needs(tmp_path, variables):
+    need("go")
+    shutil.copytree(BINDINGS / "go", tmp_path / "go")
+    said = refused(["go", "build", "."], tmp_path / "go", **variables)
+    assert re.findall(r"undefined: (\w+)", said) == ["zsched_needs_cgo_and_a_C_compiler_on_linux_amd64"]
+
+
+def test_a_crate_for_another_machine_says_for_which_it_is(tmp_path):
+    need("rustc")
+    ran(["rustc", "-o", "build", BINDINGS / "rust/build.rs"], tmp_path, CARGO_MANIFEST_DIR=tmp_path)
+    (tmp_path / "libzsched.a").touch()
+    assert "link-lib=static=zsched" in ran(["./build"], tmp_path, TARGET="x86_64-unknown-linux-gnu")
+    for target in ["aarch64-apple-darwin", "aarch64-unknown-linux-gnu", "x86_64-pc-windows-msvc"]:
+        said = refused(["./build"], tmp_path, TARGET=target)
+        assert f"zsched: libzsched.a is for Linux on x86-64, and it is not for {target}" in said
+    (tmp_path / "libzsched.a").unlink()
+    assert "and there is no" in refused(["./build"], tmp_path, TARGET="x86_64-unknown-linux-musl")
+
+
+def test_npm_installs_no_addon_for_another_machine(tmp_path):
+    need("npm")
+    shutil.copytree(BINDINGS / "node", tmp_path / "package")
+    (tmp_path / "mac.js").write_text("Object.defineProperty(process, 'platform', { value: 'darwin' });\n")
+    ran(["npm", "pack", "./package"], tmp_path, npm_config_cache="cache")
+    words = ["npm", "install", "--offline", "--no-audit", "--no-fund", next(tmp_path.glob("zsched-*.tgz"))]
+    said = refused(words, tmp_path, npm_config_cache="cache", NODE_OPTIONS=f"--require {tmp_path / 'mac.js'}")
+    assert "EBADPLATFORM" in said and "wanted" in said
+    assert '"cpu":"x64","libc":"glibc"' in said
+
+
+@pytest.mark.full
+def test_the_bundle_for_maven_central_has_its_layout_and_sums(root):
+    need("javac", JNA)
+    made = packages(root, "java")
+    bundle = root.folder / "bundle"
+    shutil.unpack_archive(made[-2], bundle, "zip")
+    found = {str(it.relative_to(bundle)): it.read_bytes() for it in bundle.rglob("*") if it.is_file()}
+    names = [f"io/github/zsched/zsched/{VERSION}/zsched-{VERSION}{end}"
+             for end in ["-javadoc.jar", "-sources.jar", ".jar", ".pom"]]
+    assert sorted(found) == sorted(name + end for name in names for end in ["", ".md5", ".sha1"])
+    for name in names:
+        for kind in ["md5", "sha1"]:
+            assert found[f"{name}.{kind}"].decode() == hashlib.new(kind, found[name]).hexdigest()
+    pom = (BINDINGS / "java/pom.xml").read_text()
+    for field in ["name", "description", "url", "licenses", "developers", "scm", "connection", "developerConnection"]:
+        assert f"<{field}>" in pom
 
 
 class Root:
@@ -242,4 +309,4 @@ def test_debian_packages_are_the_same_bytes_again_and_lintian_has_nothing_to_say
             assert hashlib.md5((tmp_path / "root" / name).read_bytes()).hexdigest() == total, name
     needs = [output_of(["dpkg-deb", "-f", package, "Depends"]).strip() for package in packages]
     assert re.fullmatch(r"libc6 \(>= 2\.\d+\)", needs[0])
-    assert needs[1:] == [f"{DEBS[0]} (= {VERSION})", f"python3 (>= 3.11), {DEBS[0]} (>= {VERSION})"]
+    assert needs[1:] == [f"{DEBS[0]} (= {VERSION})", f"python3 (>= 3.10), {DEBS[0]} (>= {VERSION})"]

@@ -21,6 +21,8 @@ from mistakes import MISTAKES, split
 from reports import jobs_of
 from support import TOP, examples, plan, plans_with_reports, rows
 from zsched_tools import drawn, hints, schedule_rules
+from zsched_tools.outage import command as outage
+from zsched_tools.outage.scenario import read_scenario
 from zsched_tools.place import FaultAt
 from zsched_tools.policy import command
 from zsched_tools.policy.reading import Wrong
@@ -118,7 +120,7 @@ def said_by_tools(text, fault, zsched):
     """What the tools say of a policy. `fault` is zsched's of its least draw, or None."""
     try:
         policy = drawn.Policy(text, zsched)
-        draws = [policy.texts(it) for it in (drawn.LOW, drawn.HIGH) if policy.is_drawn]
+        draws = [policy.texts(it) for it in (drawn.LOW, drawn.HIGH, drawn.seeded(7, 3)) if policy.is_drawn]
         if fault is None:
             return ["A", *[f"is {policy.spelled}"][policy.spelled == text:], *draws]
         cause = policy.cause_at(drawn.LOW, schedule_rules.any_cause(policy.schedule(drawn.LOW), fault))
@@ -182,6 +184,19 @@ def test_in_an_outage_each_attempt_meets_the_service_as_it_is_at_its_begin(page)
     assert len(attempts) > 200 and sum(job.how == "failed" for job in jobs) > 1
 
 
+@pytest.mark.parametrize("policy", ["(exponential(100) && recurs(9)) jitter full", "spaced(rand(500, 900))"])
+def test_an_outage_with_a_capacity_is_that_of_zsched_outage(page, policy, zsched):
+    fields = {"world": "outage", "a": policy, "until": "30s", "spread": "1s", "down": "0..2s", "capacity": "3",
+              "seed": "5"}
+    text = page("page.plan", fields)["text"].encode()
+    parts = {"horizon": 30000, "seed": 5, "clients": {"number": 20, "within": 1000}, "policies": {"a": policy},
+             "windows": [{"from": 0, "to": 2000, "is": "down"}, {"from": 2000, "capacity": 3}]}
+    found = outage.simulate(read_scenario(json.dumps(parts).encode()), str(zsched), "a", 50, lambda share, words: None)
+    ours, theirs = ([[(it.begin, it.end, it.how, it.value) for it in job.attempts] for job in jobs_of(report)]
+                    for report in [reference.answer(text, MOST_ATTEMPTS)[1], found[2][0]])
+    assert ours == theirs and sum(map(len, ours)) > 100
+
+
 def test_the_same_seed_gives_the_same_plan(page):
     fields = {"world": "outage", "a": "spaced(rand(1, 1000000))"}
     one, again, other = (page("page.plan", {**fields, "seed": seed})["text"] for seed in "112")
@@ -232,8 +247,12 @@ def test_every_field_has_a_label_and_a_place_for_its_fault():
     named = set(re.findall(r'<label for="(\w+)"', TEXT))
     defaults = re.search(r"const DEFAULTS = \{(.*?)\};", TEXT, re.S)[1]
     fields = set(re.findall(r'<(?:input|textarea|select) id="(\w+)"', TEXT))
-    assert named == fields == set(re.findall(r'(\w+): "', defaults)) and len(named) == 14
+    assert named == fields == set(re.findall(r'(\w+): "', defaults)) and len(named) == 15
     assert set(re.findall(r'id="(\w+)-fault"', TEXT)) == (named | {"plan"}) - {"world"}
+
+
+def test_its_table_of_texts_is_that_of_the_tools():
+    assert hints.piece("texts") == hints.TEXTS, "build/page writes it"
 
 
 def test_other_pages_take_its_pieces():
@@ -257,6 +276,12 @@ def test_letters_are_readable_on_each_ground_by_day_and_at_night():
             for ground in ["page", "band", "down"]:
                 low, high = sorted([brightness(colors[ink]), brightness(colors[ground])])
                 assert (high + 0.05) / (low + 0.05) >= 4.5, (ink, ground, colors)
+        # An area of errors is darker than one of successes, whatever the hue, and both differ from each ground.
+        assert (brightness(colors["ok"]) + 0.05) / (brightness(colors["err"]) + 0.05) >= 2
+        for area in ["ok", "err"]:
+            for ground in ["page", "band", "down"]:
+                low, high = sorted([brightness(colors[area]), brightness(colors[ground])])
+                assert (high + 0.05) / (low + 0.05) >= 3, (area, ground, colors)
     assert len(themes) == 2 and "::placeholder { color: var(--soft); opacity: 1; }" in TEXT
     assert min(int(size) for size in re.findall(r"font(?:-size)?: (?:600 )?(\d+)px", TEXT)) >= 11
 
@@ -273,7 +298,7 @@ def test_a_browser_shows_the_first_example():
     said = inside(document, "state").replace("\n", "")
     assert "A: gives up with 503 after 11 attempts, 13.54 s; longest wait 2 s" in said
     # 100, 200, 400, 800, 1600, and 2000 five times.
-    assert "for every input (unproved): 11 attempts, always; waits of at most 2 s, 13.1 s in all" in document
+    assert "unproved: for every input: 11 attempts, always; waits of at most 2 s, 13.1 s in all" in document
     assert "end failed 503 at 13540 polls 22" in inside(document, "report")
     assert re.search(r'<div id="picture"[^>]*><svg ', document) and 'class="fault shown"' not in document
 

@@ -68,13 +68,21 @@ def asked(url, text, path="/report"):
 @pytest.mark.parametrize("path", sorted(TOP.glob("examples/*.json"))[:8], ids=lambda path: path.stem)
 def test_the_report_is_that_of_the_program(url, path):
     found, report = asked(url, path.read_bytes()), path.with_name(f"{path.name}.stdout").read_text()
-    assert found == {"report": report, "size": len(report), "bounds": found["bounds"]}
+    assert found == {"report": report, "size": len(report), "bounds": found["bounds"], "proved": found["proved"]}
 
 
 def test_the_page_says_what_holds_for_every_input(url):
     policy, said = "(exponential(100) && recurs(5))", "6 attempts, always; waits of at most 1.6 s, 3.1 s in all"
     for query, end in [("", ""), ("?attempt=1..5000", "; ends within 33.1 s"), ("?attempt=5", ""), ("?other=1..5", "")]:
         assert asked(url, question(policy), f"/report{query}")["bounds"] == {policy: said + end}
+
+
+@pytest.mark.parametrize("is_proved", [True, False])
+def test_bounds_of_an_unproved_program_say_so(zsched, is_proved, bounds, tmp_path):
+    subprocess.run(["strip", "-o", tmp_path / "bounds", bounds], check=True)
+    with open(tmp_path / "bounds", "ab") as file:
+        file.write(b"" if is_proved else b"\nunproved\n")
+    assert command.answer(zsched, question("recurs(3)"), 10, str(tmp_path / "bounds"))["proved"] is is_proved
 
 
 # The status of the program of bounds, or null for none, the policies, and what is said of them.
@@ -186,14 +194,6 @@ def test_a_plan_of_too_many_attempts_is_not_run():
     assert fault["cause"].startswith("its attempts may be 1.0e+15, more than 100000000: ")
 
 
-@pytest.mark.parametrize("line, said, is_limited", [
-    ("", b"\n", True), ("# AddressSanitizer", b"hard_rss_limit_mb=1024\n", False)])
-def test_a_program_that_maps_terabytes_limits_its_memory_itself(tmp_path, line, said, is_limited):
-    path = executable(tmp_path / "program", f'{line}\ncat > /dev/null\necho "$ASAN_OPTIONS"')
-    with mock.patch.object(command.resource, "prlimit") as limit:
-        assert (*command.run(path, b"", 10)[:2], limit.called) == (0, said, is_limited)
-
-
 def test_a_port_that_is_taken_is_told(zsched):
     with socket.create_server(("127.0.0.1", 0)) as taken:
         port = taken.getsockname()[1]
@@ -209,8 +209,13 @@ def test_it_ends_when_it_is_told_to(zsched, number):
 
 
 @pytest.mark.full
-def test_a_browser_shows_what_the_program_gives(url):
-    document = opened(url)
+@pytest.mark.parametrize("end, mark", [(b"", ""), (b"\nunproved\n", "unproved: ")])
+def test_a_browser_shows_what_the_programs_give(zsched, bounds, tmp_path, end, mark):
+    subprocess.run(["strip", "-o", tmp_path / "bounds", bounds], check=True)
+    (tmp_path / "bounds").write_bytes((tmp_path / "bounds").read_bytes() + end)
+    with served(zsched, ZSCHED_BOUNDS=str(tmp_path / "bounds")) as (_, url):
+        document = opened(url)
+    assert re.search(f">{mark}for every input: 11 attempts, always", document)
     for name, words in [("engine", "comes from zsched itself"), ("report", "end failed 503 at 13540 polls 22"),
                         ("state", "gives up with 503 after 11 attempts, 13.54 s; longest wait 2 s")]:
         assert words in inside(document, name)

@@ -180,6 +180,20 @@ def test_threads_may_call_at_once(zsched):
     assert found[0][:5] == ["10", "10", "20", "30", "50"] and found == [found[0]] * 4
 
 
+@pytest.mark.parametrize("text", ["recurs(20)", "recurs(20).collectAll"])
+def test_threads_share_a_decorated_function(zsched, text):
+    numbers = []
+
+    @zsched.retrying(text)
+    def fetch():
+        numbers.append(1)
+        raise OSError("busy")
+    with concurrent.futures.ThreadPoolExecutor(8) as pool:
+        found = [pool.submit(fetch) for _ in range(8)]
+    assert [str(it.exception()) for it in found] == ["busy"] * 8 and len(numbers) == 8 * 21
+    assert (fetch.statistics.calls, fetch.statistics.retries) == (8, 8 * 20)
+
+
 def test_a_missing_library_names_the_command_that_makes_it(tmp_path):
     words = [sys.executable, "-B", "-c",
              "try:\n import zsched; zsched.check('forever')\nexcept OSError as fault:\n print(fault)"]
@@ -254,9 +268,11 @@ async def late(*_):
     (lambda by: by("recurs(1)")(contextlib.contextmanager(generator))(), "generator returns a generator"),
     (lambda by: by("recurs(1)")(7), "7 is no function"),
     (lambda by: by("recurs(1)", on=len), "issubclass"),
+    (lambda by: by("recurs(1)", attempt_most=1)(int), "is not asynchronous, so attempt_most can't end it"),
     *[(lambda by, name=name: by("recurs(1)", **{name: late}), f"{name} is a coroutine function")
       for name in ["input_of", "retry_on_result", "before_sleep", "on_give_up", "retry_after"]],
-    *[(lambda by, name=name, text=text: by(text, **{name: lambda *_: late()})(Clock().failing(1))(), f"{name} returns an aw")
+    *[(lambda by, name=name, text=text: by(text, **{name: lambda *_: late()})(Clock().failing(1))(),
+       f"{name} returns an aw")
       for name, text in [("before_sleep", "recurs(1)"), ("on_give_up", "recurs(0)")]],
     (lambda by: by("recurs(1)", retry_on_result=lambda _: late())(int)(), "retry_on_result returns an awaitable")])
 def test_what_would_be_tried_once_or_never_awaited_is_an_error(retrying, tried, named):
@@ -311,7 +327,7 @@ def test_statistics_are_of_all_calls_and_options_can_be_others(retrying, clock):
     assert (tried.statistics.given_up, round(tried.statistics.slept, 6)) == (1, 0.09)
     other = tried.with_(schedule="spaced(7)", on=KeyError)
     assert other() == "done" and (other.statistics.calls, tried.statistics.calls) == (1, 2)
-    with pytest.raises(ValueError, match="a jitter of 2 "):
+    with pytest.raises(ValueError, match="the jitter 2 is not from 0 to 1"):
         tried.with_(jitter=2)
 
 
@@ -336,6 +352,54 @@ def test_a_least_sleep_that_is_no_number_hides_no_error(retrying, clock, retry_a
     with pytest.raises(OSError, match="^9 left$") as caught:
         retrying("spaced(1)", retry_after=retry_after)(clock.failing(10))()
     assert note in caught.value.__notes__[0] and clock.slept == []
+
+
+@pytest.mark.parametrize("least, slept", [(99999999999, 3600), (1e300, 3600), (10 ** 300, 3600), (3600.5, 3600),
+                                          (7.5, 7.5), (-5, 0.001)])
+def test_a_least_sleep_is_honoured_up_to_its_longest(retrying, clock, least, slept):
+    with pytest.raises(OSError, match="^0 left$"):
+        retrying("(spaced(1) && recurs(1))", retry_after=lambda _: least)(clock.failing(2))()
+    assert clock.slept == [slept]
+    clock.slept.clear()
+    assert retrying("spaced(1)", retry_after=lambda _: least, retry_after_most=5)(clock.failing(1))() == "done"
+    assert clock.slept == [min(slept, 5)]
+
+
+@pytest.mark.parametrize("least", [math.inf, -math.inf, 10 ** 400, 99999999999])
+def test_a_least_sleep_that_no_clock_has_hides_no_error(zsched, least):
+    tried = zsched.retrying("(spaced(1) && recurs(1))", retry_after=lambda _: least, retry_after_most=0.001)
+    with pytest.raises(OSError, match="^[01] left$"):
+        tried(Clock().failing(2))()
+
+
+def test_an_attempt_of_a_coroutine_is_cancelled_at_its_limit(zsched):
+    ended, numbers = [], iter([60, 60, 0])
+
+    @zsched.retrying("(spaced(1) && recurs(3))", on=asyncio.TimeoutError, attempt_most=0.05)
+    async def fetch():
+        try:
+            await asyncio.sleep(next(numbers))
+            return "done"
+        except asyncio.CancelledError:
+            ended.append("cancelled")
+            raise
+    assert asyncio.run(fetch()) == "done" and ended == ["cancelled"] * 2
+    assert (fetch.statistics.calls, fetch.statistics.retries) == (1, 2)
+
+
+def test_a_loop_has_the_seconds_that_are_left(retrying, clock):
+    found = []
+    with pytest.raises(EOFError):
+        for attempt in retrying("(spaced(10) && recurs(2))", attempt_most=0.02):
+            with attempt:
+                found.append(attempt.left())
+                clock.seconds += 0.015
+                found.append(round(attempt.left(), 6))
+                clock.seconds += 0.015
+                found.append(attempt.left())
+                raise EOFError
+    assert found == [0.02, 0.005, 0] * 3
+    assert [attempt.left() for attempt in retrying("recurs(1)")] == [None]
 
 
 def test_methods_of_a_class_are_tried_whatever_decorates_them(retrying, clock):
@@ -374,9 +438,17 @@ def test_statistics_and_a_budget_are_plain_values(zsched, retrying, clock):
     assert tried() == "done"
     assert dataclasses.asdict(pickle.loads(pickle.dumps(tried.statistics))) == {
         "calls": 1, "retries": 2, "given_up": 0, "slept": 0.0}
-    for words in [(-1,), (math.nan,), (3, -1), (3, math.inf)]:
+    for words in [(-1,), (math.nan,), (math.inf,), (3, -1), (3, math.nan), (3, math.inf)]:
         with pytest.raises(ValueError, match="^zsched: a budget of "):
             zsched.Budget(*words)
+    assert not zsched.Budget(0, 0).take()
+    for name in ["retry_after_most", "attempt_most"]:
+        for most in [-1, math.nan, math.inf]:
+            with pytest.raises(ValueError, match=f"^zsched: the {name} "):
+                retrying("recurs(9)", **{name: most})
+    for jitter in [-0.1, 1.1, math.nan]:
+        with pytest.raises(ValueError, match="^zsched: the jitter "):
+            retrying("recurs(9)", jitter=jitter)
 
 
 def test_a_wait_that_no_clock_has_is_an_error(retrying, clock):

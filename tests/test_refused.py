@@ -1,4 +1,4 @@
-"""Each allocation fails in turn, in a single call and in whole runs; and a machine on which no thread can be started."""
+"""Each allocation fails in turn, in a single call and in whole runs; and a machine on which no thread starts."""
 import re
 from typing import NamedTuple
 
@@ -53,7 +53,8 @@ CALLS = {name: Call(name, *more) for name, *more in support.rows("calls.jsonl")}
 for call, number, grain in [("jobs", 7, 1), ("run", 7, 3), ("run", 52, 3)]:
     for workers in [1, 2]:
         plan, report = plan_of(number, workers, grain if workers > 1 else 1)
-        lines = {"jobs": ["read_plan: Memory", "run_jobs: Memory", "report: AllocError"], "run": CALLS["run"].lines}[call]
+        lines = {"jobs": ["read_plan: Memory", "run_jobs: Memory", "report: AllocError"],
+                 "run": CALLS["run"].lines}[call]
         CALLS[f"{call} of {number}, {workers} workers"] = Call(
             call, plan.decode(), report.decode(), lines, lines[1].replace("Memory", "NoThread") if workers > 1 else "")
 
@@ -121,8 +122,8 @@ class Population:
         self.blocks = [plan_of(first, 1, 1)[1].rpartition(b"polls ")[0] for first in range(0, jobs + 1, BLOCK_OF_JOBS)]
 
     def place(self, ended):
-        """Where a run ended: the number of blocks before, and a line (after a block's last one if that was run). None for
-        the whole report."""
+        """Where a run ended: the number of blocks before, and a line (after a block's last one if that was run). None
+        for the whole report."""
         if ended == self.whole:
             return None
         status, output, errors = ended

@@ -1,6 +1,8 @@
 """CONTRIBUTING's rules for code, over the product's crates: each violation is shown by file and line. Exceptions are
 the names of the request's surface, read from the tests that compile it, and those of the header for C."""
 import re
+import subprocess
+import sys
 import types
 
 import pytest
@@ -75,13 +77,26 @@ def unused(files):
 
 
 def limits_again(files):
-    """Limits that are written again where their constant can be seen."""
-    number = re.compile(r"(const MAX_\w+: \w+ = )?(?<![\w.])(\d[\d_]{4,})\b(?! bytes)")
-    found = [(path.split("/")[1], it[2].replace("_", ""), it[1], place(path, text, it.end()))
+    """Limits that are written again where their constant can be seen, and those of definitions in other files that can
+    see these."""
+    number = re.compile(r"(const MAX_\w+: \w+ = |^max_\w+ = )?(?<![\w.])(\d[\d_]{4,})\b(?! bytes)", re.M)
+    found = [(path.split("/")[1], (path[-3:], it[2].replace("_", "")), it[1],
+              place(path, text, it.end()) if path.endswith(".rt") else path)
              for path, text in files.items() for it in number.finditer(text)]
-    return [f"{where} {value}" for crate, value, _, where in found
+    return [f"{where} {value[1]}" for crate, value, _, where in found
             if any(value == other and is_limit and where != at and (crate == named or named in SEEN[crate])
                    for named, other, is_limit, at in found)]
+
+
+# Constants that definitions may name: long texts, and words of a format that nothing outside defines.
+TEXTS = {"HELP", "VERSION", "PROGRAM_VERSION", "CHECK_START", "CHECK_FACTOR"}
+
+
+def constants_named(files):
+    """Constants of the code that a definition or a contract names, but for texts."""
+    return [f"{place(path, text, it.start())} {name}" for path, text in files.items()
+            for it in re.finditer(r"\buse .*\.TheConstants(?:\.\{(.*?)\})?", text)
+            for name in (it[1] or "all").split(", ") if name not in TEXTS]
 
 
 # Each rule: what breaks it in some files, and a text that does.
@@ -104,7 +119,10 @@ RULES = {
     "each form is written out": (
         lambda files: [place(*it, at.end()) for it in files.items() for at in DEFAULT.finditer(it[1])],
         "    Term::Map(s, _) => {\n        f(s)\n    }\n    _ => g(),\n"),
-    "a limit is one constant": (limits_again, "const MAX_A: u64 = 10_000;\nconst MAX_B: u64 = 10000;\n"),
+    "a limit is one constant, and one definition": (
+        limits_again, "const MAX_A: u64 = 10_000;\nconst MAX_B: u64 = 10000;\n"),
+    "a definition names no constant of the code": (
+        constants_named, "use Rattle.zs_run.specs.declared.reading.TheConstants.{MAX_BYTES}\n"),
     "a line of specs has at most 100 columns": (
         lambda files: [place(*it, at.start()) for it in files.items() if it[0].endswith(".antt")
                        for at in re.finditer(".{101,}", it[1])], "-" * 101),
@@ -117,3 +135,18 @@ def test_a_rule_holds_and_finds_what_breaks_it(rule):
     check, text = RULES[rule]
     assert any(check({"crates/zs_run/src/a.rt": text, "crates/zs_run/specs/A.antt": text})), "it finds nothing"
     assert not (found := "\n".join(check(FILES))), found
+
+
+def lint(*words):
+    return subprocess.run([sys.executable, "-m", "pycodestyle", f"--config={TOP}/setup.cfg", *words],
+                          capture_output=True, text=True).stdout
+
+
+def test_python_is_as_pycodestyle_wants_it(tmp_path):
+    pytest.importorskip("pycodestyle", reason="pycodestyle isn't installed (Debian: pycodestyle)")
+    (tmp_path / "wide.py").write_text(f"it = '{'-' * 114}'\n")
+    assert lint(tmp_path / "wide.py").endswith("E501 line too long (121 > 120 characters)\n")
+    files = [it for part in ["benches", "build", "tests", "tools"] for it in (TOP / part).rglob("*")
+             if it.is_file() and TOP / "tests/cases" not in it.parents]
+    scripts = [it for it in files if it.suffix == ".py" or re.match(rb"#!.*python", it.read_bytes()[:40])]
+    assert len(scripts) > 100 and lint(*scripts) == ""

@@ -1,31 +1,50 @@
-"""What all commands of tools/ have in common, beside tests/cases/tools/: the program that they run, and the Python
-that they need."""
+"""What all commands of tools/ have in common, beside tests/cases/tools/: the program that they run, the Python that
+they need, and the decisions of schedules."""
 import ast
+import ctypes
+import os
+import pathlib
+import random
 import re
+import shutil
 import sys
 
 import pytest
 
-from support import TOP
+import generator
+from histories import History
+from support import TOP, examples
+import unproved
 from zsched_tools import program, starting
+from zsched_tools.decisions import Decisions
 
 TOOLS = sorted((TOP / "tools").glob("zsched-*"))
+MARK = unproved.MARK
 MAIN = TOP / "tools" / "zsched_tools" / "__main__.py"
 
 
-def test_an_unproved_program_is_named_and_not_taken(tmp_path, monkeypatch):
+def test_the_last_program_that_was_built_is_taken_and_an_unproved_one_named(tmp_path, monkeypatch, capsys):
     monkeypatch.setenv("PATH", str(tmp_path))
-    monkeypatch.delenv("ZSCHED", raising=False)
+    for name in ["ZSCHED", "ZSCHED_BOUNDS"]:
+        monkeypatch.delenv(name, raising=False)
     monkeypatch.setattr(program, "CRATES", tmp_path)
-    out = tmp_path / "zsched" / "out"
-    out.mkdir(parents=True)
-    for name, said in [("other", "as the unproved one that ./run leaves in crates/zsched/out"),
-                       ("unproved-1", f"as {out}/unproved-1, unproved")]:
-        (out / name).touch(0o755)
-        with pytest.raises(program.NoProgram, match=re.escape(said) + "$"):
-            program.find()
-    (out / "zsched").touch(0o755)
-    assert program.find() == f"{out}/zsched"
+    with pytest.raises(program.NoProgram, match="zsched is neither built .* nor installed"):
+        program.find()
+    tool = pathlib.Path(sys.argv[0]).name
+    said = f"{tool}: takes the programs that ./run built, unproved (./run --proved proves them)\n"
+    # The names of files in the order in which they were built, each with its end, and what is said of the last one.
+    for built, words in [([("unproved-1", MARK)], said), ([("unproved-1", MARK), ("zsched", b"")], ""),
+                         ([("zsched", b""), ("unproved-2", MARK)], said), ([("zsched", b"x" + MARK)], said)]:
+        out = tmp_path / "zsched" / "out"
+        shutil.rmtree(out, ignore_errors=True)
+        out.mkdir(parents=True)
+        for age, (name, end) in enumerate(built):
+            (out / name).write_bytes(end)
+            (out / name).chmod(0o755)
+            os.utime(out / name, (age, age))
+        program._say_unproved.cache_clear()
+        assert [program.find(), program.find()] == [f"{out}/{built[-1][0]}"] * 2
+        assert capsys.readouterr() == ("", words)
 
 
 def test_an_old_python_is_named_in_one_line():
@@ -49,3 +68,37 @@ def test_a_command_looks_for_an_old_python_before_it_reads_its_own_files(path, m
 def test_that_look_needs_no_new_python():
     for file in [MAIN, MAIN.with_name("starting.py"), MAIN.with_name("__init__.py")]:
         ast.parse(file.read_text(), feature_version=(3, 4))
+
+
+@pytest.mark.parametrize("by", ["library", "jobs"])
+def test_decisions_are_those_of_the_reference(by, zsched, request):
+    """Of schedules with and without time and inputs, after attempts of any lengths, of which some are late."""
+    library = ctypes.CDLL(str(request.getfixturevalue("library") / "libzsched.so")) if by == "library" else None
+    count = 0
+    for seed in range(examples(60)):
+        chance = random.Random(seed)
+        text = generator.made_term(chance, chance.choice([1, 3, 6, 12]))[0]
+        given = [sorted(chance.sample(range(1, 900), chance.randint(1, 6))) for _ in range(5)]
+        given = [[(moment, chance.choice([0, 1, 5, 503])) for moment in moments] for moments in given]
+        found = [[] for _ in given]
+        Decisions(text, chance.choice(["retry", "repeat"]), str(zsched), library).run(
+            asked(steps, waits) for steps, waits in zip(given, found))
+        for steps, waits in zip(given, found):
+            wanted = [step.split(",")[:2] for step in History(text.encode(), steps).steps[:len(waits)]]
+            wanted = [None if done == "1" else int(after) - moment for (done, after), (moment, _) in zip(wanted, steps)]
+            assert cut(waits) == cut(wanted), (text, steps)
+            assert len(waits) == len(steps) or waits[-1] is None
+            count += len(waits)
+    assert count > 500
+
+
+def cut(waits):
+    """Waits of which the longest end after all moments."""
+    return [wait and min(wait, 10**18) for wait in waits]
+
+
+def asked(steps, waits):
+    for step in steps:
+        if None in waits:
+            return
+        waits.append((yield step))

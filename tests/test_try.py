@@ -8,10 +8,13 @@ import pytest
 from hypothesis import given
 from hypothesis import strategies as st
 
+import bounds as interval_run
 from reports import jobs_of
-from support import TOP, run, run_here
-from zsched_tools import bounding, program, trials
+from support import TOP, examples, run, run_here
+from zsched_tools import bounding, program, schedule_rules, trials
+from zsched_tools.drawn import Policy
 from zsched_tools.durations import milliseconds
+from zsched_tools.policy import explaining
 from zsched_tools.trying import command
 from zsched_tools.words import duration
 
@@ -54,11 +57,13 @@ def test_bounds_are_left_out_without_their_program_unless_they_are_required(zsch
     for option in ["--require-most", "--require-wait", "--require-total", "--require-end"]:
         status, output, errors = tool(*words, "--attempt", "5s", option, "9")
         assert (status, output) == (2, "")
-        assert "needs zsched-bounds, which is neither built nor installed" in errors
+        assert "needs zsched-bounds, which is neither built (./run builds it) nor installed" in errors
 
 
 @pytest.mark.parametrize("words, lines", SHOWN, ids=[words for words, _ in SHOWN])
 def test_the_documents_show_runs_as_they_are(words, lines, zsched, bounds):
+    """Those that test_readme.py runs with unproved programs too, here with these."""
+    lines = re.sub(r"^zsched-try: takes .*\n|^unproved: ", "", lines, flags=re.M)
     status, output, errors = tool(*shlex.split(words), "--zsched", zsched, "--bounds", bounds)
     assert output + errors == lines and "for every input" in lines
 
@@ -68,6 +73,41 @@ def test_the_help_shows_a_run_as_it_is_and_the_documents_five(zsched, bounds):
     policy, line, every = re.search(r"\$ zsched-try '(.+)'\n +(.+\n) +(.+\n)", output).groups()
     assert tool(policy, "--zsched", zsched, "--bounds", bounds) == (0, line + every, "")
     assert len(SHOWN) == 5
+
+
+def test_each_part_of_a_schedule_has_a_line():
+    for seed in range(examples(1000)):
+        if found := interval_run.random_policy(seed):
+            lines = list(explaining.explained(Policy(found[0]), None))
+            count = sum(piece.word not in "()" for piece in schedule_rules.pieces(found[0]))
+            assert len(lines) == 2 + count and all(line.strip() for line in lines[2:]), found[0]
+
+
+def without(whole, part, around):
+    """A schedule without a part that never acts, which is its own test or one side of an operator."""
+    keeps = part.parts[0] if part is around else next(it for it in around.parts if it is not part)
+    return whole.replace(around.text, keeps.text)
+
+
+def test_a_part_that_never_acts_can_be_left_out(zsched, bounds):
+    """Plans of random policies, and of these without the part: each job makes the same attempts."""
+    chance, jobs, parts = random.Random(5), [], set()
+    leaves = ["forever", "recurs(1)", "recurs(4)", "spaced(3)", "elapsed", "identity", "fixed(5)", "exponential(2)"]
+    for _ in range(examples(500)):
+        one, other, third = chance.choices(leaves, k=3)
+        inner = f"({one} {chance.choice(['&&', '||'])} {other}{chance.choice(['', '.whileInput(< 7)'])})"
+        inner += chance.choice(["", ".whileInput(!= 5)", "_1", "_2"])
+        inner = re.sub(r"_(\d)$", lambda it: f".whileOutput(_{it[1]} < {chance.choice([1, 3, 9, 99])})", inner)
+        whole = f"({inner} {chance.choice(['&&', '||'])} {third})"
+        term = schedule_rules.folded(whole, explaining._leaf, explaining._joined, explaining._behind)
+        for part, around in explaining.idle_parts(term, bounds):
+            script = [(chance.randint(1, 9), "err", chance.choice([0, 5, 6, 7])) for _ in range(9)] + [(1, "ok", 0)]
+            texts = [term.text, without(term.text, part, around)]
+            jobs += [(f"{len(jobs)}-{it}", text, script) for it, text in enumerate(texts)]
+            parts.add((around.word.split("(")[0], part is around))
+    report = run(zsched, trials.plan_of(10**9, "retry", jobs).encode())[1]
+    found = [([(it.begin, it.end) for it in job.attempts], job.how, job.at) for job in jobs_of(report)]
+    assert found[::2] == found[1::2] and len(found) > 200 and len(parts) >= 3
 
 
 def shown_in(section):

@@ -12,6 +12,8 @@ import java.util.concurrent.CompletableFuture;
 import java.util.concurrent.ExecutionException;
 import java.util.concurrent.Executors;
 import java.util.concurrent.ScheduledExecutorService;
+import java.util.concurrent.TimeUnit;
+import java.util.concurrent.TimeoutException;
 import zsched.Budget;
 import zsched.Retry;
 import zsched.Schedule;
@@ -41,8 +43,8 @@ public final class Client {
     private static void retry(String command, String text, long[] numbers, List<Object> said) throws Exception {
         long begun = System.nanoTime();
         int[] attempts = {0};
-        Retry retry = Retry.of(text).inputOf(error -> Long.parseUnsignedLong(error.getMessage()));
-        retry.on(error -> numbers.length == 2 || numbers[0] != numbers[4]);
+        Retry retry = Retry.of(text).inputOf(error -> Long.parseUnsignedLong(error.getMessage()))
+            .on(error -> numbers.length == 2 || numbers[0] != numbers[4]);
         Callable<String> attempt = () -> {
             said.add((System.nanoTime() - begun) / 1000);
             if (attempts[0]++ < numbers[1]) {
@@ -77,11 +79,54 @@ public final class Client {
     }
 
     private static Retry optioned(Retry retry, long[] numbers, List<Object> said) {
-        return retry.budget(numbers[5] == 1 ? BUDGET : null).jitter(numbers[2] / 100.0).retryAfter(error -> Duration.ofMillis(numbers[3])).onFailure(failure -> {
+        Retry most = numbers.length == 6 ? retry : retry.retryAfterMost(Duration.ofMillis(numbers[6]));
+        return most.budget(numbers[5] == 1 ? BUDGET : null).jitter(numbers[2] / 100.0).retryAfter(error -> Duration.ofMillis(numbers[3])).onFailure(failure -> {
             if (failure.delay() != null) {
                 said.add(failure.number() + ":" + failure.delay().toMillis());
             }
         });
+    }
+
+    /** Makes attempts that end some time after their interrupt, or in 5 seconds; a future is cancelled. */
+    private static void limited(String command, String text, long[] numbers, List<Object> said) throws Exception {
+        long begun = System.nanoTime();
+        Runnable say = () -> said.add((System.nanoTime() - begun) / 1000);
+        Retry retry = Retry.of(text).inputOf(error -> numbers[0]).attemptMost(Duration.ofMillis(numbers[2]));
+        ScheduledExecutorService scheduler = Executors.newScheduledThreadPool(1);
+        try {
+            said.add(0, command.equals("limited") ? retry.call(() -> {
+                say.run();
+                try {
+                    Thread.sleep(said.size() <= 2 * numbers[1] ? 5000 : 0);
+                } catch (InterruptedException interrupted) {
+                    Thread.sleep(30);
+                    throw interrupted;
+                } finally {
+                    say.run();
+                }
+                return "done";
+            }) : retry.callAsync(() -> {
+                say.run();
+                CompletableFuture<String> attempt = new CompletableFuture<>();
+                attempt.whenComplete((value, error) -> say.run());
+                scheduler.schedule(() -> attempt.complete("done"), said.size() <= 2 * numbers[1] ? 5000 : 0, TimeUnit.MILLISECONDS);
+                return attempt;
+            }, scheduler).get());
+        } catch (TimeoutException | ExecutionException late) {
+            said.add(0, numbers[0]);
+        } finally {
+            scheduler.shutdownNow();
+        }
+    }
+
+    private static long good(String text, long count) throws Exception {
+        Retry retry = Retry.of(text);
+        long begun = System.nanoTime();
+        for (long i = 0; i < count; i++) {
+            long number = i;
+            retry.call(() -> number);
+        }
+        return (System.nanoTime() - begun) / count;
     }
 
     private static void bounds(String text, long[] numbers, List<Object> said) {
@@ -108,6 +153,8 @@ public final class Client {
             case "version" -> said.add(Schedule.version());
             case "moved" -> Stepper.resume(lines[1], new Stepper(lines[0]).state());
             case "retry", "later" -> retry(command, text, numbers, said);
+            case "limited", "limited_later" -> limited(command, text, numbers, said);
+            case "good" -> said.add(good(text, numbers[0]));
             case "bounds" -> bounds(text, numbers, said);
             case "many" -> many(text, numbers[0]);
             default -> steps(command, text, numbers, said);

@@ -10,6 +10,7 @@ import java.util.concurrent.Executors;
 import java.util.concurrent.FutureTask;
 import java.util.concurrent.ScheduledExecutorService;
 import java.util.concurrent.TimeUnit;
+import java.util.concurrent.atomic.AtomicInteger;
 import java.util.function.Supplier;
 import java.util.function.UnaryOperator;
 import zsched.Budget;
@@ -148,6 +149,81 @@ public final class OnlyInJava {
         }
     }
 
+    /** A clock that falls below its start stands still: the waits are those of the schedule. */
+    private static void falling() {
+        long[] now = {0};
+        int[] attempts = {0};
+        List<Object> slept = new ArrayList<>();
+        Retry retry = Retry.of("(spaced(30) && recurs(5))").clock(() -> now[0], time -> {
+            slept.add(time.toMillis());
+            now[0] += time.toNanos();
+        });
+        same(thrown(() -> retry.call(() -> {
+            now[0] -= ++attempts[0] == 2 ? 80_000_000 : 0;
+            return fail();
+        })).getMessage(), "busy");
+        same(slept, List.of(31L, 31L, 31L, 31L, 31L));
+    }
+
+    /** Wrong texts and numbers are errors, and an option changes no other retry. */
+    private static void wrong() throws Exception {
+        same(((Schedule.Fault) thrown(() -> Retry.of("recurs("))).at, 7L);
+        for (double wrong : new double[] {-0.1, Double.NaN, Double.POSITIVE_INFINITY}) {
+            same(thrown(() -> new Budget(wrong, 0.1)).getClass(), IllegalArgumentException.class);
+            same(thrown(() -> new Budget(10, wrong)).getClass(), IllegalArgumentException.class);
+            same(thrown(() -> Retry.of("forever").jitter(wrong)).getClass(), IllegalArgumentException.class);
+        }
+        same(new Budget(0, 0).take(), false);
+        Retry retry = Retry.of("recurs(1)");
+        retry.on(error -> false).retryOnResult(result -> true).onFailure(failure -> hook()).onSuccess(attempts -> hook());
+        int[] attempts = {0};
+        same(retry.call(() -> attempts[0]++ == 0 ? fail() : "done"), "done");
+    }
+
+    /** Threads share a retry. */
+    private static void shared() throws Exception {
+        for (String text : List.of("recurs(20)", "recurs(20).collectAll")) {
+            AtomicInteger attempts = new AtomicInteger();
+            Retry retry = Retry.of(text);
+            List<Thread> threads = new ArrayList<>();
+            for (int i = 0; i < 8; i++) {
+                threads.add(new Thread(() -> thrown(() -> retry.call(() -> {
+                    attempts.incrementAndGet();
+                    return fail();
+                }))));
+            }
+            threads.forEach(Thread::start);
+            for (Thread thread : threads) {
+                thread.join();
+            }
+            same(attempts.get(), 8 * 21);
+        }
+    }
+
+    /** An interrupt that isn't the limit's ends the retry, and the limit's leaves none. */
+    private static void limited() throws Exception {
+        Thread caller = Thread.currentThread();
+        Retry retry = Retry.of("recurs(2)").attemptMost(Duration.ofMillis(20));
+        same(thrown(() -> retry.call(() -> {
+            Thread.sleep(60_000);
+            return 1;
+        })).getMessage(), "zsched: the attempt took longer than PT0.02S");
+        same(retry.call(() -> {
+            long begun = System.nanoTime();
+            while (System.nanoTime() - begun < 60_000_000) {
+                Thread.onSpinWait();
+            }
+            return "late";
+        }), "late");
+        same(caller.isInterrupted(), false);
+        int[] attempts = {0};
+        same(thrown(() -> retry.attemptMost(Duration.ofMinutes(1)).call(() -> {
+            attempts[0]++;
+            throw new InterruptedException();
+        })).getClass(), InterruptedException.class);
+        same(attempts[0], 1);
+    }
+
     /** Attempts that a scheduler starts: their cause is judged, and none follows a cancelled future. */
     private static void async() throws Exception {
         ScheduledExecutorService scheduler = Executors.newScheduledThreadPool(1);
@@ -211,6 +287,10 @@ public final class OnlyInJava {
         futures();
         results();
         early();
+        falling();
+        wrong();
+        shared();
+        limited();
         async();
         cancelled();
         numbers();

@@ -5,11 +5,15 @@
  *   program TEXT MOMENT INPUT ..  steps a program
  *   stored TEXT MOMENT INPUT ..   the same, each step by a new program with the stored state (not in C)
  *   moved TEXT                    stores a state of the text's first line, for a program of its second line (not in C)
- *   retry TEXT CODE TIMES [JITTER LEAST STOP BUDGET]
+ *   retry TEXT CODE TIMES [JITTER LEAST STOP BUDGET [MOST]]
  *                                 retries an effect that fails at once with CODE, the first TIMES times; JITTER in percent and
- *                                 each wait of LEAST ms at least, but not if CODE is STOP; all requests whose BUDGET is 1
- *                                 share one of 10 tokens and the ratio 0.5 (these not in C)
+ *                                 each wait of LEAST ms at least, of which MOST ms are honoured, but not if CODE is STOP; all
+ *                                 requests whose BUDGET is 1 share one of 10 tokens and the ratio 0.5 (these not in C)
  *   later, loop, later_loop       as retry, but asynchronously (Python, Java, Rust), by a loop, by both (Python)
+ *   limited, limited_later, limited_loop, limited_later_loop TEXT CODE TIMES MOST
+ *                                 as these, but the first TIMES attempts take 5 s, or end with CODE some 30 ms after the
+ *                                 limit of MOST ms that they get; a coroutine or future is cut off by it (not in C)
+ *   good TEXT COUNT               makes COUNT calls that don't fail, and prints the nanoseconds of one (not in C)
  *   many TEXT COUNT               steps a program COUNT times, each time when it may; prints a line after each tenth
  *   bounds TEXT STEPS [LEAST MOST]
  *                                 zs_bounds: all nine of struct zs_bounds; in C between the number and the place
@@ -19,7 +23,8 @@
  *
  * The line of steps has a word NUMBER,NEXT,VISITS,OUTPUT for each; a fault ends it: NUMBER,AT,WORDS. The line of a retry has
  * the code at which it gave up, or 'done', and the microseconds at which each attempt began; with more numbers also
- * NUMBER:MILLISECONDS for each call of its hook before a sleep.
+ * NUMBER:MILLISECONDS for each call of its hook before a sleep. That of a limited one also has the microseconds at which each
+ * attempt ended, after those at which it began.
  *
  * client refuse   prints how many allocations each request makes, after it has made each of them fail
  * client threads  runs all requests on four threads at once too, with as much stack as zsched.h says

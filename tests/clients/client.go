@@ -69,17 +69,19 @@ func moved(text string) error {
 
 func retry(text string, code, times uint64, options ...uint64) []any {
 	start, attempts, said, more := time.Now(), uint64(0), []any{""}, []zsched.Option(nil)
+	if len(options) > 4 {
+		more = append(more, zsched.RetryAfterMost(time.Duration(options[4])*time.Millisecond))
+	}
 	if len(options) > 0 {
-		more = []zsched.Option{
+		more = append(more,
 			zsched.WithBudget(budgets[options[3]]),
-			zsched.Jitter(float64(options[0]) / 100),
+			zsched.Jitter(float64(options[0])/100),
 			zsched.RetryAfter(func(error) time.Duration { return time.Duration(options[1]) * time.Millisecond }),
 			zsched.Notify(func(_ error, attempt int, wait time.Duration) {
 				said = append(said, fmt.Sprintf("%d:%d", attempt, wait.Milliseconds()))
-			}),
-		}
+			}))
 	}
-	ended, err := zsched.RetryValue(context.Background(), text, codeOf, func(context.Context) (string, error) {
+	ended, err := zsched.RetryValue(context.Background(), zsched.MustCompile(text), codeOf, func(context.Context) (string, error) {
 		said = append(said, time.Since(start).Microseconds())
 		attempts++
 		if attempts > times {
@@ -95,6 +97,36 @@ func retry(text string, code, times uint64, options ...uint64) []any {
 	}
 	said[0] = ended
 	return said
+}
+
+// limited makes attempts that end some time after their context, or in 5 seconds.
+func limited(text string, code, times, most uint64) []any {
+	start, said := time.Now(), []any{"done"}
+	err := zsched.Retry(context.Background(), zsched.MustCompile(text), codeOf, func(ctx context.Context) error {
+		said = append(said, time.Since(start).Microseconds())
+		defer func() { said = append(said, time.Since(start).Microseconds()) }()
+		if uint64(len(said)) > 2*times {
+			return nil
+		}
+		select {
+		case <-ctx.Done():
+			time.Sleep(30 * time.Millisecond)
+		case <-time.After(5 * time.Second):
+		}
+		return failing(code)
+	}, zsched.AttemptMost(time.Duration(most)*time.Millisecond))
+	if err != nil {
+		said[0] = err.Error()
+	}
+	return said
+}
+
+func good(text string, count uint64) int64 {
+	policy, ctx, start := zsched.MustCompile(text), context.Background(), time.Now()
+	for i := uint64(0); i < count; i++ {
+		_, _ = zsched.RetryValue(ctx, policy, codeOf, func(context.Context) (uint64, error) { return i, nil })
+	}
+	return time.Since(start).Nanoseconds() / int64(count)
 }
 
 func many(text string, count uint64) {
@@ -125,6 +157,10 @@ func main() {
 			err = moved(text)
 		case "retry":
 			said = retry(text, numbers[0], numbers[1], numbers[2:]...)
+		case "limited":
+			said = limited(text, numbers[0], numbers[1], numbers[2])
+		case "good":
+			said = append(said, good(text, numbers[0]))
 		case "bounds":
 			said, err = bounds(text, numbers[0], numbers[1:]...)
 		case "many":

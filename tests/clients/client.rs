@@ -1,5 +1,5 @@
 //! The client of the library in Rust. client.c documents the requests and the lines.
-use std::future::{self, Future};
+use std::future::{poll_fn, Future};
 use std::pin::pin;
 use std::sync::Mutex;
 use std::task::{Context, Poll, Waker};
@@ -33,19 +33,28 @@ fn steps(command: &str, text: &str, numbers: &[u64], said: &mut Vec<String>) -> 
     Ok(())
 }
 
-/// Returns what a future returns that is ready at once.
-fn ready<T>(future: impl Future<Output = T>) -> T {
-    match pin!(future).poll(&mut Context::from_waker(Waker::noop())) {
-        Poll::Ready(value) => value,
-        Poll::Pending => panic!("it isn't ready"),
+/// Polls a future each millisecond, and returns what it returns.
+fn block_on<T>(future: impl Future<Output = T>) -> T {
+    let mut future = pin!(future);
+    loop {
+        match future.as_mut().poll(&mut Context::from_waker(Waker::noop())) {
+            Poll::Ready(value) => return value,
+            Poll::Pending => sleep(Duration::from_millis(1)),
+        }
     }
+}
+
+fn sleep_async(time: Duration) -> impl Future {
+    let until = Instant::now() + time;
+    poll_fn(move |_| if Instant::now() < until { Poll::Pending } else { Poll::Ready(()) })
 }
 
 fn retry(command: &str, text: &str, numbers: &[u64]) -> Vec<String> {
     let (code, times, start, said, mut attempts) = (numbers[0], numbers[1], Instant::now(), Mutex::new(Vec::new()), 0);
     let say = |word: String| said.lock().expect("one thread").push(word);
-    let mut retry = Retry::new(text).input_of(|code| *code);
-    if let [jitter, least, stop, budget] = numbers[2..] {
+    let mut retry = Retry::new(text).expect("a schedule").input_of(|code| *code);
+    if let [jitter, least, stop, budget, ref most @ ..] = numbers[2..] {
+        retry = if most.is_empty() { retry } else { retry.retry_after_most(Duration::from_millis(most[0])) };
         retry = if budget == 1 { retry.budget(&BUDGET) } else { retry };
         retry = retry.jitter(jitter as f64 / 100.0).when(move |code| *code != stop);
         retry = retry.retry_after(move |_| Some(Duration::from_millis(least)));
@@ -57,12 +66,68 @@ fn retry(command: &str, text: &str, numbers: &[u64]) -> Vec<String> {
         if attempts <= times { Err(code) } else { Ok("done".to_owned()) }
     };
     let ended = match command {
-        "later" => ready(retry.call_async(|| future::ready(attempt()), |wait| future::ready(sleep(wait)))),
+        "later" => block_on(retry.call_async(|| std::future::ready(attempt()), sleep_async)),
         _ => retry.call(attempt),
     };
     let mut words = vec![ended.unwrap_or_else(|failed| failed.to_string())];
     words.append(&mut said.lock().expect("one thread"));
     words
+}
+
+/// Says when it is dropped.
+struct Ending<'a>(&'a dyn Fn());
+
+impl Drop for Ending<'_> {
+    fn drop(&mut self) {
+        self.0();
+    }
+}
+
+/// Makes attempts that take 5 seconds, or end at their limit: a future is dropped, and others get it.
+fn limited(command: &str, text: &str, numbers: &[u64]) -> Vec<String> {
+    let (start, said, mut attempts) = (Instant::now(), Mutex::new(Vec::new()), 0);
+    let say = || said.lock().expect("one thread").push(start.elapsed().as_micros().to_string());
+    let [code, times, most] = numbers[..] else { panic!("three numbers") };
+    let retry = Retry::new(text).expect("a schedule").input_of(|code| *code);
+    let retry = retry.attempt_most(Duration::from_millis(most), || code);
+    let mut begin = || {
+        say();
+        attempts += 1;
+        (Ending(&say), attempts <= times)
+    };
+    let ended = match command {
+        "limited_later" => block_on(retry.call_async(
+            || {
+                let (ending, is_slow) = begin();
+                async move {
+                    if is_slow {
+                        sleep_async(Duration::from_secs(5)).await;
+                    }
+                    drop(ending);
+                    Ok("done".to_owned())
+                }
+            },
+            sleep_async,
+        )),
+        _ => retry.call(|| {
+            let (_ending, is_slow) = begin();
+            if is_slow {
+                sleep(retry.limit().unwrap_or(Duration::from_secs(5)));
+            }
+            if is_slow { Err(code) } else { Ok("done".to_owned()) }
+        }),
+    };
+    let mut words = vec![ended.unwrap_or_else(|failed| failed.to_string())];
+    words.append(&mut said.lock().expect("one thread"));
+    words
+}
+
+fn good(text: &str, count: u64) -> u128 {
+    let (retry, start) = (Retry::<u64>::new(text).expect("a schedule"), Instant::now());
+    for number in 0..count {
+        assert_eq!(retry.call(|| Ok(std::hint::black_box(number))), Ok(number));
+    }
+    start.elapsed().as_nanos() / u128::from(count)
 }
 
 fn bounds(text: &str, numbers: &[u64], said: &mut Vec<String>) -> Result<(), Fault> {
@@ -104,6 +169,8 @@ fn main() {
             "version" => Ok(said.push(zsched::version().to_string())),
             "moved" => moved(&text),
             "retry" | "later" => Ok(said = retry(words[0], &text, &numbers)),
+            "limited" | "limited_later" => Ok(said = limited(words[0], &text, &numbers)),
+            "good" => Ok(said.push(good(&text, numbers[0]).to_string())),
             "bounds" => bounds(&text, &numbers, &mut said),
             "many" => many(&text, numbers[0]),
             command => steps(command, &text, &numbers, &mut said),

@@ -5,26 +5,29 @@ import (
 	"context"
 	"errors"
 	"fmt"
+	"math"
+	"sync"
+	"sync/atomic"
 	"testing"
 	"time"
 
 	zsched "github.com/zsched/zsched/bindings/go"
 )
 
-const noAttempt = "zsched: the attempt is nil"
+const noAttempt = "zsched: the policy or the attempt is nil"
 
 var errBusy = errors.New("busy")
 
 func busy(context.Context) error { return errBusy }
 
 func TestNoFunctionIsNoPanic(t *testing.T) {
-	if err := zsched.Retry(nil, "recurs(2)", nil, busy, zsched.Notify(nil), zsched.RetryAfter(nil)); err != errBusy {
+	if err := zsched.Retry(nil, zsched.MustCompile("recurs(2)"), nil, busy, zsched.Notify(nil), zsched.RetryAfter(nil)); err != errBusy {
 		t.Error(err)
 	}
-	if err := zsched.Retry(context.Background(), "recurs(2)", nil, nil); err == nil || err.Error() != noAttempt {
+	if err := zsched.Retry(context.Background(), zsched.MustCompile("recurs(2)"), nil, nil); err == nil || err.Error() != noAttempt {
 		t.Error(err)
 	}
-	if _, err := zsched.RetryValue[int](context.Background(), "recurs(2)", nil, nil); err == nil || err.Error() != noAttempt {
+	if _, err := zsched.RetryValue[int](context.Background(), zsched.MustCompile("recurs(2)"), nil, nil); err == nil || err.Error() != noAttempt {
 		t.Error(err)
 	}
 	var fault *zsched.Fault
@@ -38,7 +41,7 @@ func TestNoFunctionIsNoPanic(t *testing.T) {
 
 func TestPermanentErrorsAreReturnedAtOnceAsTheyAre(t *testing.T) {
 	attempts := 0
-	err := zsched.Retry(context.Background(), "forever", nil, func(context.Context) error {
+	err := zsched.Retry(context.Background(), zsched.MustCompile("forever"), nil, func(context.Context) error {
 		attempts++
 		return fmt.Errorf("fetch: %w", zsched.Permanent(errBusy))
 	})
@@ -50,7 +53,7 @@ func TestPermanentErrorsAreReturnedAtOnceAsTheyAre(t *testing.T) {
 func TestAContextThatEndsInAWaitIsBothErrors(t *testing.T) {
 	ctx, cancel := context.WithTimeout(context.Background(), 20*time.Millisecond)
 	defer cancel()
-	err := zsched.Retry(ctx, "spaced(100000)", nil, busy)
+	err := zsched.Retry(ctx, zsched.MustCompile("spaced(100000)"), nil, busy)
 	if !errors.Is(err, errBusy) || !errors.Is(err, context.DeadlineExceeded) || err.Error() != "busy (context deadline exceeded)" {
 		t.Error(err)
 	}
@@ -63,7 +66,7 @@ func (coded coded) Error() string { return "coded" }
 func TestAContextThatEndsInAnAttemptTakesNoToken(t *testing.T) {
 	ctx, cancel := context.WithCancel(context.Background())
 	budget := zsched.NewBudget(9, 1)
-	err := zsched.Retry(ctx, "spaced(1)", nil, func(context.Context) error {
+	err := zsched.Retry(ctx, zsched.MustCompile("spaced(1)"), nil, func(context.Context) error {
 		cancel()
 		return coded{7}
 	}, zsched.WithBudget(budget), zsched.Notify(func(_ error, _ int, wait time.Duration) { t.Error(wait) }))
@@ -75,7 +78,7 @@ func TestAContextThatEndsInAnAttemptTakesNoToken(t *testing.T) {
 
 func TestAWaitIsNotNegative(t *testing.T) {
 	waits := 0
-	_ = zsched.Retry(context.Background(), "recurs(3)", nil, func(context.Context) error {
+	_ = zsched.Retry(context.Background(), zsched.MustCompile("recurs(3)"), nil, func(context.Context) error {
 		time.Sleep(1700 * time.Microsecond)
 		return errBusy
 	}, zsched.Notify(func(_ error, _ int, wait time.Duration) {
@@ -103,7 +106,7 @@ func TestACopyOfAScheduleGoesOnAlone(t *testing.T) {
 
 func TestAnAttemptThatBeginsEarlyCountsFromItsPlannedMoment(t *testing.T) {
 	text, attempts := "(spaced(20) && elapsed).whileOutput(_2 < 400)", uint64(0)
-	_ = zsched.Retry(context.Background(), text, nil, func(context.Context) error {
+	_ = zsched.Retry(context.Background(), zsched.MustCompile(text), nil, func(context.Context) error {
 		attempts++
 		time.Sleep(10 * time.Millisecond)
 		return errBusy
@@ -122,5 +125,69 @@ func TestABoundIsHeldOrNot(t *testing.T) {
 	}
 	if bounds, err = zsched.BoundsOf("spaced(1)", 9); err != nil || bounds.Within(1<<63, 1<<63) {
 		t.Error(bounds, err)
+	}
+}
+
+func panics(call func()) (is bool) {
+	defer func() { is = recover() != nil }()
+	call()
+	return
+}
+
+func TestWrongTextsAndNumbersAreRefused(t *testing.T) {
+	var fault *zsched.Fault
+	policy, err := zsched.Compile("recurs(")
+	if !errors.As(err, &fault) || fault.At != 7 || policy != nil || !panics(func() { zsched.MustCompile("recurs(") }) {
+		t.Error(policy, err)
+	}
+	for _, wrong := range []float64{-1, math.NaN(), math.Inf(1)} {
+		if !panics(func() { zsched.NewBudget(wrong, 0.1) }) || !panics(func() { zsched.NewBudget(10, wrong) }) {
+			t.Error(wrong)
+		}
+		attempts := 0
+		err := zsched.Retry(context.Background(), zsched.MustCompile("recurs(2)"), nil, func(context.Context) error {
+			attempts++
+			return errBusy
+		}, zsched.Jitter(wrong))
+		if err == nil || err == errBusy || attempts != 0 {
+			t.Error(wrong, err, attempts)
+		}
+	}
+	if zsched.NewBudget(0, 0).Take() {
+		t.Error("a retry without a token")
+	}
+}
+
+func TestAnAttemptThatOutlastsItsLimitAndTheContextThatEndsIt(t *testing.T) {
+	ctx, cancel := context.WithCancel(context.Background())
+	attempts := 0
+	err := zsched.Retry(ctx, zsched.MustCompile("recurs(5)"), nil, func(limited context.Context) error {
+		<-limited.Done()
+		if attempts++; attempts == 2 {
+			cancel()
+		}
+		return limited.Err()
+	}, zsched.AttemptMost(20*time.Millisecond))
+	if attempts != 2 || !errors.Is(err, context.DeadlineExceeded) || !errors.Is(err, context.Canceled) {
+		t.Error(attempts, err)
+	}
+}
+
+func TestGoroutinesShareAPolicy(t *testing.T) {
+	for _, text := range []string{"recurs(20)", "recurs(20).collectAll"} {
+		policy, attempts, group := zsched.MustCompile(text), int64(0), sync.WaitGroup{}
+		for i := 0; i < 8; i++ {
+			group.Add(1)
+			go func() {
+				defer group.Done()
+				_ = zsched.Retry(context.Background(), policy, nil, func(context.Context) error {
+					atomic.AddInt64(&attempts, 1)
+					return errBusy
+				})
+			}()
+		}
+		if group.Wait(); attempts != 8*21 {
+			t.Error(text, attempts)
+		}
 	}
 }

@@ -1,7 +1,9 @@
 //! Tests what only the binding for Rust has.
 use std::cell::Cell;
+use std::sync::atomic::{AtomicU64, Ordering::Relaxed};
+use std::thread;
 use std::time::Duration;
-use zsched::{bounds_for, check, version, Fault, Retry, Schedule, Stepper};
+use zsched::{bounds_for, check, version, Budget, Fault, Retry, Schedule, Stepper};
 
 /// The bytes that the binding at first has for an output.
 const ROOM: usize = 256;
@@ -59,7 +61,7 @@ fn tried(text: &str, millis: u64, failures: u64) -> (Vec<u64>, Result<u64, u64>)
         waits.push(wait.as_millis() as u64);
         clock.set(clock.get() + wait.as_millis() as u64);
     };
-    let ended = Retry::new(text).input_of(|code| *code).call_by(attempt, || Duration::from_millis(clock.get()), sleep);
+    let ended = Retry::new(text).expect("a schedule").input_of(|code| *code).call_by(attempt, || Duration::from_millis(clock.get()), sleep);
     (waits, ended.map_err(|failed| failed.into_last().expect("a schedule")))
 }
 
@@ -116,7 +118,43 @@ fn an_attempt_that_begins_early_counts_from_its_planned_moment() {
             clock.set(clock.get() + Duration::from_millis(500));
             Err::<(), u64>(503)
         };
-        let ended = Retry::new(text).jitter(share).call_by(attempt, || clock.get(), |wait| clock.set(clock.get() + wait));
+        let ended = Retry::new(text).expect("a schedule").jitter(share).call_by(attempt, || clock.get(), |wait| clock.set(clock.get() + wait));
         assert_eq!((ended.is_err(), attempts, most), (true, 15, Some(15)));
+    }
+}
+
+#[test]
+fn wrong_texts_and_numbers_are_refused() {
+    assert_eq!(Retry::<u64>::new("recurs(").err(), Some(Fault::NoTerm { at: 7 }));
+    for wrong in [-0.1, f64::NAN, f64::INFINITY] {
+        assert!(std::panic::catch_unwind(|| Budget::new(wrong, 0.1)).is_err(), "{wrong}");
+        assert!(std::panic::catch_unwind(|| Budget::new(10.0, wrong)).is_err(), "{wrong}");
+        let jittered = || drop(Retry::<u64>::new("forever").expect("a schedule").jitter(wrong));
+        assert!(std::panic::catch_unwind(jittered).is_err(), "{wrong}");
+    }
+    assert!(!Budget::new(0.0, 0.0).take());
+}
+
+#[test]
+fn a_clock_that_falls_stands_still() {
+    let (clock, mut waits, mut attempts) = (Cell::new(100), Vec::new(), 0);
+    let attempt = || {
+        attempts += 1;
+        clock.set(if attempts == 2 { 0 } else { clock.get() + 5 });
+        Err::<(), u64>(503)
+    };
+    let retry = Retry::new("(spaced(30) && recurs(5))").expect("a schedule");
+    let ended = retry.call_by(attempt, || Duration::from_millis(clock.get()), |wait| waits.push(wait.as_millis()));
+    // The attempt in which it falls counts as 1 millisecond, the others take 5.
+    assert_eq!((ended.is_err(), waits), (true, vec![30, 31, 30, 30, 30]));
+}
+
+#[test]
+fn threads_share_a_retry() {
+    for text in ["recurs(20)", "recurs(20).collectAll"] {
+        let (retry, attempts) = (Retry::new(text).expect("a schedule"), AtomicU64::new(0));
+        let failing = || retry.call(|| Err::<(), u64>(attempts.fetch_add(1, Relaxed)));
+        thread::scope(|scope| (0..8).for_each(|_| drop(scope.spawn(failing))));
+        assert_eq!(attempts.into_inner(), 8 * 21, "{text}");
     }
 }

@@ -1,8 +1,8 @@
 """Uses each call of the package's hints: `mypy --strict`. A line with `type: ignore` has to be rejected."""
 import asyncio
 
-from zsched import (Answer, Attempt, Bounds, Budget, Fault, Retrying, Schedule, ScheduleFault, Statistics, Stepper, bounds,
-                    check, retrying)
+from zsched import (Answer, Attempt, Bounds, Budget, Fault, Retrying, Schedule, ScheduleFault, Statistics, Stepper,
+                    Tried, bounds, check, retrying)
 
 TEXT = "(exponential(10) && recurs(5))"
 BUDGET = Budget(tokens=10, ratio=0.1)
@@ -13,7 +13,8 @@ def code_of(error: OSError) -> int:
 
 
 @retrying(TEXT, on=OSError, input_of=code_of, retry_on_result=lambda result: result is None, jitter=0.5, budget=BUDGET,
-          before_sleep=lambda error, number, wait: print(error, number, wait), on_give_up=print, retry_after=lambda _: None)
+          before_sleep=lambda error, number, wait: print(error, number, wait), on_give_up=print,
+          retry_after=lambda _: None)
 def fetch(url: str) -> bytes:
     return url.encode()
 
@@ -21,6 +22,12 @@ def fetch(url: str) -> bytes:
 @retrying(Stepper(TEXT))
 async def fetch_later(url: str) -> bytes:
     return fetch(url)
+
+
+class Service:
+    @retrying(TEXT, retry_after_most=60, attempt_most=None)
+    def fetch(self, url: str) -> bytes:
+        return url.encode()
 
 
 async def loops() -> list[int]:
@@ -47,6 +54,10 @@ def main() -> None:
         print(fault.number)
     other: Retrying = retrying(TEXT).with_(jitter=0.1)
     attempts: list[Attempt] = list(other)
-    print(attempts)
+    left: float | None = attempts[0].left()
+    service: Tried[[Service, str], bytes] = Service.fetch
+    page: bytes = service.with_(jitter=0.1)(Service(), "a") + Service().fetch("a") + fetch.with_(jitter=0.1)("a")
+    print(left, page, fetch.statistics.calls, fetch_later.with_(on=OSError).statistics.slept)
     fetch(7)  # type: ignore[arg-type]
+    fetch.with_(jitter=0.1)(7)  # type: ignore[arg-type]
     check(7)  # type: ignore[arg-type]

@@ -1,0 +1,71 @@
+"""Builds the program of a crate, or that of a library's tests, without any proof: unproved.py CRATE FILE.
+
+The toolchain's `rt try` builds such a program, runs it and removes it. So `rt try` runs in a copy of the toolchain,
+made of links, whose linker stores the program and then fails, and whose compiler leaves out checks at run time. Each
+program ends with a mark, by which tools/zsched_tools/program.py and ./run know it wherever it is copied to."""
+import os
+import pathlib
+import shutil
+import signal
+import subprocess
+import sys
+import tempfile
+
+sys.dont_write_bytecode = True
+
+from toolchain import TOP, Toolchain, Unusable
+
+LINKER = """#!/bin/sh
+"{kit}/toolchain/bin/ld.lld" "$@" || exit
+while [ "$1" != -o ]; do shift; done
+cp "$2" "{program}"
+exit 1
+"""
+COMPILER = """#!/bin/bash
+case " $* " in *" --extern-only "* | *" --undefined-only "*) exec -a llvm-nm "{kit}/toolchain/bin/clang" "$@" ;; esac
+for word; do case "$word" in -fsanitize=address) ;; -O0) words+=({level}) ;; *) words+=("$word") ;; esac; done
+exec "{kit}/toolchain/bin/clang" "${{words[@]}}"
+"""
+MARK = b"\nunproved\n"
+
+
+def build(folder, file, **variables):
+    """Builds the program of the crate in a folder, or that of its tests if it is a library, into a file."""
+    kit = Toolchain().kit
+    words, level = (["--test"], "-O0") if (folder / "src" / "lib.rt").exists() else ([], "-O1")
+    with tempfile.TemporaryDirectory() as room:
+        copy, program = pathlib.Path(room, "kit"), pathlib.Path(room, "program")
+        copy.mkdir()
+        subprocess.run(["cp", "-rs", *[kit / it for it in ["bin", "c", "toolchain"]], copy], check=True)
+        subprocess.run(["ln", "-s", *[kit / it for it in ["rattle", "rlibs", "logic_built"]], copy], check=True)
+        for name, text in [("toolchain/bin/ld.lld", LINKER.format(kit=kit, program=program)),
+                           ("toolchain/bin/clang", COMPILER.format(kit=kit, level=level)), ("c/asan.a", "!<arch>\n"),
+                           ("bin/rattle", "#!/bin/sh\n"), ("bin/rt", None), ("bin/rtlib.py", None)]:
+            (copy / name).unlink()
+            (copy / name).write_text(text or (kit / name).read_text())
+            (copy / name).chmod(0o755)
+        with subprocess.Popen([copy / "bin/rt", "try", *words], cwd=folder, stdin=subprocess.DEVNULL, errors="replace",
+                              stdout=subprocess.PIPE, stderr=subprocess.STDOUT,
+                              env={**os.environ, "TMPDIR": room, **variables}) as running:
+            try:
+                said = running.communicate()[0]
+            finally:
+                # It ends what it started; a killed one wouldn't.
+                running.terminate()
+        if not program.exists():
+            raise Unusable(said[-3000:])
+        with open(program, "ab") as it:
+            it.write(MARK)
+        # Another process may run the file, or build it too.
+        file.parent.mkdir(exist_ok=True)
+        new = file.with_name(f".{file.name}.{os.getpid()}")
+        shutil.copy(program, new)
+        new.rename(file)
+
+
+if __name__ == "__main__":
+    signal.signal(signal.SIGTERM, lambda number, _: sys.exit(128 + number))
+    try:
+        build(TOP / "crates" / sys.argv[1], pathlib.Path(sys.argv[2]).resolve())
+    except Unusable as fault:
+        sys.exit(str(fault))

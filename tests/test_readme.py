@@ -1,0 +1,54 @@
+"""README and the first page of RECIPES, as a newcomer follows them: each command, in the order of the page, prints what
+is shown. They run in a copy of the tree without `out/`, so the first one builds the programs without their proofs."""
+import os
+import re
+import shutil
+import subprocess
+
+import pytest
+
+from support import TOP, output_of
+
+PAGES = [(TOP / "README.md").read_text(), "### ".join((TOP / "docs/RECIPES.md").read_text().split("### ", 2)[:2])]
+# How a command begins that isn't run here, and why.
+LEFT_OUT = {
+    "tar -xzf ": "no release is published; tests/cases/release makes and runs one",
+    "PATH=": "it names the folder of a release", "zsched-try ": "it is that of a release",
+    "apt install ": "the package is one of a release",
+    "./run --proved": "it takes half an hour; tests/cases/run has it in a small tree",
+    "./check": "it runs this test; tests/cases/check has what it installs"}
+
+
+def commands(page):
+    """The commands of a page: lines of blocks, with the output that is shown (None: none is), and those in backquotes.
+    A tool that is named alone shows its help."""
+    for found in re.finditer(r"^ *```(\w+)\n(.*?)^ *```$|`((?:\./|tools/zsched-|apt )[^`]*)`", page, re.M | re.S):
+        language, text, inline = found.groups()
+        if language == "console":
+            yield from (it.partition("\n")[::2] for it in re.split(r"^\$ ", text, flags=re.M)[1:])
+        elif language == "sh":
+            yield from ((line.strip(), None) for line in text.splitlines())
+        elif inline:
+            yield inline + " --help" * bool(re.fullmatch(r"tools/[\w-]+", inline)), None
+
+
+COMMANDS = [pair for page in PAGES for pair in commands(page)]
+
+
+def test_each_command_that_is_left_out_is_on_a_page():
+    assert len(COMMANDS) > 15
+    assert [it for it in LEFT_OUT if not any(command.startswith(it) for command, _ in COMMANDS)] == []
+
+
+@pytest.mark.full
+def test_a_newcomer_gets_what_the_pages_show(tmp_path):
+    for name in output_of(["git", "ls-files"], cwd=TOP).splitlines():
+        (tmp_path / name).parent.mkdir(parents=True, exist_ok=True)
+        shutil.copy(TOP / name, tmp_path / name, follow_symlinks=False)
+    variables = {name: text for name, text in os.environ.items() if not name.startswith("ZSCHED")}
+    for command, shown in COMMANDS:
+        if not any(command.startswith(it) for it in LEFT_OUT):
+            ended = subprocess.run(["bash", "-c", command], cwd=tmp_path, env=variables, stdin=subprocess.DEVNULL,
+                                   stdout=subprocess.PIPE, stderr=subprocess.STDOUT, text=True, timeout=1800)
+            assert (shown is None and ended.returncode == 0) or ended.stdout == shown, (command, ended.stdout)
+    assert (tmp_path / "picture.svg").read_text().startswith("<svg")
