@@ -146,7 +146,7 @@ def test_python_is_as_pycodestyle_wants_it(tmp_path):
     pytest.importorskip("pycodestyle", reason="pycodestyle isn't installed (Debian: pycodestyle)")
     (tmp_path / "wide.py").write_text(f"it = '{'-' * 114}'\n")
     assert lint(tmp_path / "wide.py").endswith("E501 line too long (121 > 120 characters)\n")
-    files = [it for part in ["benches", "build", "tests", "tools"] for it in (TOP / part).rglob("*")
+    files = [it for part in ["benches", "bindings", "build", "tests", "tools"] for it in (TOP / part).rglob("*")
              if it.is_file() and TOP / "tests/cases" not in it.parents]
     scripts = [it for it in files if it.suffix == ".py" or re.match(rb"#!.*python", it.read_bytes()[:40])]
     assert len(scripts) > 100 and lint(*scripts) == ""

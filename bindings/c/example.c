@@ -78,8 +78,9 @@ int main(void)
     socklen_t length = sizeof address;
     int listening = socket(AF_INET, SOCK_STREAM, 0);
     address.sin_addr.s_addr = htonl(INADDR_LOOPBACK);
-    if (!ends_in_time() || listening < 0 || bind(listening, (struct sockaddr *)&address, sizeof address) || listen(listening, 8) ||
-        getsockname(listening, (struct sockaddr *)&address, &length) || pthread_create(&server, NULL, serve, &listening))
+    if (!ends_in_time() || listening < 0 || bind(listening, (struct sockaddr *)&address, sizeof address) ||
+        listen(listening, 8) || getsockname(listening, (struct sockaddr *)&address, &length) ||
+        pthread_create(&server, NULL, serve, &listening))
         return 2;
     clock_gettime(CLOCK_MONOTONIC, &begun);
     if (retry(POLICY, attempt, &call) || retry_passed(&begun) < 140)

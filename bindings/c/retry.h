@@ -23,7 +23,8 @@ static uint64_t retry_passed(const struct timespec *begun)
 /* Sleeps until this number of milliseconds has passed since a moment. */
 static void retry_sleep(const struct timespec *begun, uint64_t planned)
 {
-    struct timespec until = {begun->tv_sec + (time_t)(planned / 1000), begun->tv_nsec + (long)(planned % 1000) * 1000000};
+    struct timespec until = {begun->tv_sec + (time_t)(planned / 1000),
+                             begun->tv_nsec + (long)(planned % 1000) * 1000000};
     until.tv_sec += until.tv_nsec / 1000000000;
     until.tv_nsec %= 1000000000;
     while (clock_nanosleep(CLOCK_MONOTONIC, TIMER_ABSTIME, &until, NULL) == EINTR)

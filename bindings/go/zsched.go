@@ -162,7 +162,8 @@ func (schedule *Schedule) After(moment, input uint64) (Answer, error) {
 	data, seen := []byte(schedule.text), append(schedule.seen[:len(schedule.seen):len(schedule.seen)], Seen{moment, input})
 	result, err := resultOf(func(out []byte) (number C.uint32_t, reply C.zs_reply) {
 		steps := (*C.zs_seen)(unsafe.Pointer(&seen[0]))
-		number = C.zs_answer(bytesOf(data), C.size_t(len(data)), steps, C.size_t(len(seen)), &reply, bytesOf(out), C.size_t(len(out)))
+		number = C.zs_answer(bytesOf(data), C.size_t(len(data)), steps, C.size_t(len(seen)), &reply, bytesOf(out),
+			C.size_t(len(out)))
 		return
 	})
 	if err == nil {

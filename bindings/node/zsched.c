@@ -12,7 +12,8 @@ typedef struct span {
     size_t length;
 } span;
 
-/* Reads a typed array: of bytes if `kind` is 'b', else of as many words as this digit says, or more. Returns 0 if it is none. */
+/* Reads a typed array: of bytes if `kind` is 'b', else of as many words as this digit says, or more. Returns 0 if it is
+ * none. */
 static int items(napi_env env, napi_value value, char kind, span *found)
 {
     napi_typedarray_type type;
@@ -23,8 +24,8 @@ static int items(napi_env env, napi_value value, char kind, span *found)
                         : type == napi_biguint64_array && found->length >= (size_t)(kind - '0'));
 }
 
-/* Reads the arguments of a call, of which each has a letter: 'n' is a number, for a uint64_t; the others are arrays, for a
- * span. Returns 0 if it threw. */
+/* Reads the arguments of a call, of which each has a letter: 'n' is a number, for a uint64_t; the others are arrays,
+ * for a span. Returns 0 if it threw. */
 static int given(napi_env env, napi_callback_info info, const char *kinds, ...)
 {
     napi_value values[MOST];
@@ -35,7 +36,8 @@ static int given(napi_env env, napi_callback_info info, const char *kinds, ...)
     for (size_t i = 0; is_well && i < count; i++) {
         bool is_whole = true;
         if (kinds[i] == 'n')
-            is_well = napi_get_value_bigint_uint64(env, values[i], va_arg(places, uint64_t *), &is_whole) == napi_ok && is_whole;
+            is_well = napi_get_value_bigint_uint64(env, values[i], va_arg(places, uint64_t *), &is_whole) == napi_ok &&
+                is_whole;
         else
             is_well = items(env, values[i], kinds[i], va_arg(places, span *));
     }
@@ -68,7 +70,8 @@ static napi_value answer(napi_env env, napi_callback_info info)
     return result(env, zs_answer(text.data, text.length, seen.data, seen.length / 2, reply.data, out.data, out.length));
 }
 
-/* bounds(text, durations, steps, found, at): durations has the three fields of zs_durations, found the nine of struct zs_bounds */
+/* bounds(text, durations, steps, found, at): durations has the three fields of zs_durations, found the nine of struct
+ * zs_bounds */
 static napi_value bounds(napi_env env, napi_callback_info info)
 {
     span text, durations, found, at;
@@ -112,8 +115,8 @@ static napi_value program_step(napi_env env, napi_callback_info info)
     uint64_t moment, input;
     if (!given(env, info, "00nn4b", &program, &state, &moment, &input, &reply, &out))
         return NULL;
-    return result(env, zs_program_step(program.data, program.length, state.data, state.length, moment, input, reply.data,
-                                       out.data, out.length));
+    return result(env, zs_program_step(program.data, program.length, state.data, state.length, moment, input,
+                                       reply.data, out.data, out.length));
 }
 
 /* faultText(number, at, out): returns the number of bytes of the text */

@@ -177,7 +177,8 @@ export interface RetryOptions {
  * The schedule is stepped at the moment when an attempt ended, but at least 1 millisecond after the
  * one that it planned for it, so its Bounds hold of each run. Without `jitter` no attempt begins
  * before its planned moment; with it an attempt that begins early counts from that moment on, so the
- * bounds hold as without, and waits are never longer. With `retryAfter` the bounds of waits are those of the schedule alone.
+ * bounds hold as without, and waits are never longer. With `retryAfter` the bounds of waits are
+ * those of the schedule alone.
  */
 export function retry<T>(
   policy: Policy,

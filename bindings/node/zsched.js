@@ -21,8 +21,8 @@ function load(place) {
     return require(place);
   } catch (cause) {
     const here = `${process.platform} on ${process.arch}`;
-    throw new Error(`zsched: ${place} can't be loaded on ${here}. The package has it for Linux on x64 with glibc; elsewhere `
-      + 'build it by bindings/node/build of the sources, and name it in ZSCHED_NODE', { cause });
+    throw new Error(`zsched: ${place} can't be loaded on ${here}. The package has it for Linux on x64 with glibc; `
+      + 'elsewhere build it by bindings/node/build of the sources, and name it in ZSCHED_NODE', { cause });
   }
 }
 
@@ -291,7 +291,7 @@ function planAfter(error, hooks) {
   }
 }
 
-/** When the next attempt begins, in nanoseconds of the clock. The schedule was stepped at `moment` and plans it at `next`. */
+/** When the next attempt begins, in nanoseconds of the clock. The schedule, stepped at `moment`, plans it at `next`. */
 function begin(start, now, moment, next, error, { jitter = 0, retryAfter, retryAfterMost = HOUR }) {
   let until = start + next * 1000000n;
   if (jitter > 0) {
@@ -337,7 +337,8 @@ async function outcome(attempt, number, given, most) {
 }
 
 async function retry(policy, attempt, options = {}) {
-  const { inputOf = () => 0, shouldRetry = () => true, onFailedAttempt = () => {}, signal, budget, attemptMost } = options;
+  const { inputOf = () => 0, shouldRetry = () => true, onFailedAttempt = () => {} } = options;
+  const { signal, budget, attemptMost } = options;
   if (typeof attempt !== 'function' || !(policy instanceof Policy)) {
     throw new TypeError('zsched: the attempt is no function, or the policy is no Policy');
   }

@@ -24,15 +24,16 @@ FLAGS = ["-shared", "-s", "-Wl,-z,noexecstack,-z,relro,-z,now,-z,defs"]
 
 
 def archive():
-    """Returns the archive: the one in the folder that ZSCHED_LIBRARY_DIR names, else the one of the sdist, else the one that
-    build/make-library made in this tree."""
+    """Returns the archive: the one in the folder that ZSCHED_LIBRARY_DIR names, else the one of the sdist, else the one
+    that build/make-library made in this tree."""
     if sys.platform != "linux" or platform.machine() != "x86_64":
         raise SystemExit(f"zsched: {NAME} is for Linux on x86-64, and not for {sys.platform} on {platform.machine()}")
     made = HERE.parents[1] / "crates" / "zsched_c" / "out" / NAME
     named = os.environ.get("ZSCHED_LIBRARY_DIR")
     found = pathlib.Path(named, NAME) if named else HERE / NAME if (HERE / NAME).exists() else made
     if not found.exists():
-        raise SystemExit(f"zsched: there is no {found}: build it by build/make-library, or name its folder in ZSCHED_LIBRARY_DIR")
+        raise SystemExit(f"zsched: there is no {found}: build it by build/make-library, or name its folder in "
+                         "ZSCHED_LIBRARY_DIR")
     return found
 
 
@@ -43,7 +44,8 @@ class WithLibrary(build_py):
         """Builds the modules, then links the library."""
         super().run()
         out = pathlib.Path(self.build_lib) / "zsched" / "libzsched.so"
-        subprocess.run(["cc", *FLAGS, "-o", out, "-Wl,--whole-archive", archive(), "-Wl,--no-whole-archive"], check=True)
+        words = ["cc", *FLAGS, "-o", out, "-Wl,--whole-archive", archive(), "-Wl,--no-whole-archive"]
+        subprocess.run(words, check=True)
 
 
 class OfThisMachine(bdist_wheel):

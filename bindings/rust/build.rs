@@ -19,7 +19,8 @@ fn main() {
     let fits = target.starts_with("x86_64-") && target.contains("-linux-");
     if !fits || !library.exists() {
         let why = if fits { format!("there is no {}", library.display()) } else { format!("it is not for {target}") };
-        eprintln!("zsched: {NAME} is for Linux on x86-64, and {why}: build it by build/make-library, or name its folder in ZSCHED_LIBRARY_DIR");
+        let how = "build it by build/make-library, or name its folder in ZSCHED_LIBRARY_DIR";
+        eprintln!("zsched: {NAME} is for Linux on x86-64, and {why}: {how}");
         std::process::exit(1);
     }
     println!("cargo:rustc-link-search=native={}", folder.display());

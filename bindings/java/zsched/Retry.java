@@ -169,7 +169,8 @@ public final class Retry implements Cloneable {
                 error = thrown;
             }
             if (value instanceof Future || value instanceof CompletionStage) {
-                throw new IllegalArgumentException("zsched: the attempt returned a future, which may still fail: use callAsync");
+                throw new IllegalArgumentException(
+                    "zsched: the attempt returned a future, which may still fail: use callAsync");
             }
             long nanos = run.delayAfter(value, error);
             if (nanos < 0) {
@@ -185,7 +186,8 @@ public final class Retry implements Cloneable {
      * blocks no thread. If the future is cancelled, or completed otherwise, the attempt or the wait is
      * cancelled, and none follows. A supplier that returns null is a NullPointerException.
      */
-    public <T> CompletableFuture<T> callAsync(Supplier<? extends CompletionStage<T>> attempt, ScheduledExecutorService scheduler) {
+    public <T> CompletableFuture<T> callAsync(Supplier<? extends CompletionStage<T>> attempt,
+            ScheduledExecutorService scheduler) {
         Objects.requireNonNull(attempt, "attempt");
         CompletableFuture<T> ended = new CompletableFuture<>();
         Run run = new Run();
@@ -196,7 +198,8 @@ public final class Retry implements Cloneable {
 
     /** Makes an attempt, and interrupts it when its time is over. */
     private <T> T limited(Callable<T> attempt) throws Exception {
-        CompletableFuture<Void> limit = new CompletableFuture<Void>().orTimeout(attemptMost.toNanos(), TimeUnit.NANOSECONDS);
+        CompletableFuture<Void> limit = new CompletableFuture<>();
+        limit.orTimeout(attemptMost.toNanos(), TimeUnit.NANOSECONDS);
         Thread caller = Thread.currentThread();
         CompletableFuture<Void> interrupting = limit.exceptionally(over -> {
             caller.interrupt();
@@ -215,7 +218,9 @@ public final class Retry implements Cloneable {
         }
     }
 
-    private TimeoutException late() { return new TimeoutException("zsched: the attempt took longer than " + attemptMost); }
+    private TimeoutException late() {
+        return new TimeoutException("zsched: the attempt took longer than " + attemptMost);
+    }
 
     private <T> void start(Run run, Supplier<? extends CompletionStage<T>> attempt, ScheduledExecutorService scheduler,
             CompletableFuture<T> ended) {
@@ -231,7 +236,8 @@ public final class Retry implements Cloneable {
             started = CompletableFuture.failedFuture(thrown);
         }
         if (started == null) {
-            ended.completeExceptionally(new NullPointerException("zsched: the attempt returned null in place of a CompletionStage"));
+            ended.completeExceptionally(
+                new NullPointerException("zsched: the attempt returned null in place of a CompletionStage"));
             return;
         }
         if (started instanceof Future<?> future) {
@@ -250,7 +256,8 @@ public final class Retry implements Cloneable {
                 if (nanos < 0) {
                     ended.complete(value);
                 } else {
-                    run.follow(scheduler.schedule(() -> start(run, attempt, scheduler, ended), nanos, TimeUnit.NANOSECONDS), ended);
+                    Runnable next = () -> start(run, attempt, scheduler, ended);
+                    run.follow(scheduler.schedule(next, nanos, TimeUnit.NANOSECONDS), ended);
                 }
             } catch (Throwable last) {
                 if (error != null && last != error) {
@@ -261,7 +268,7 @@ public final class Retry implements Cloneable {
         });
     }
 
-    /** One call: its schedule, its start, the last error, the number of attempts, and the planned moment of the last one. */
+    /** One call: its schedule, start, last error, number of attempts, and the planned moment of the last one. */
     private final class Run {
         private final long start = clock.getAsLong();
         private Schedule.Follower schedule; // begins at the first error; most calls have none
@@ -295,7 +302,8 @@ public final class Retry implements Cloneable {
         /** Ends the limit of an attempt. Returns the attempt's error, if it has one. */
         Throwable end(Throwable thrown) {
             limit.cancel(false);
-            Throwable error = thrown instanceof CompletionException && thrown.getCause() != null ? thrown.getCause() : thrown;
+            boolean isWrapped = thrown instanceof CompletionException && thrown.getCause() != null;
+            Throwable error = isWrapped ? thrown.getCause() : thrown;
             return isLate && error instanceof CancellationException ? late() : error;
         }
 
@@ -307,7 +315,7 @@ public final class Retry implements Cloneable {
             }
         }
 
-        /** Ends an attempt. Returns the nanoseconds to the next one, or -1 if its value is returned, or throws its error. */
+        /** Ends an attempt: the nanoseconds to the next one, or -1 if its value is returned, or throws its error. */
         long delayAfter(Object value, Exception thrown) throws Exception {
             number++;
             if (thrown == null && !isBad.test(value)) {
@@ -339,7 +347,8 @@ public final class Retry implements Cloneable {
             long elapsed = (now + Math.min(early, Long.MAX_VALUE - now)) / 1_000_000;
             long first = planned == -1 ? planned : planned + 1;
             long moment = Long.compareUnsigned(elapsed, first) > 0 ? elapsed : first;
-            boolean isRetried = error instanceof BadResult || !(error instanceof InterruptedException) && isWanted.test(error);
+            boolean isRetried = error instanceof BadResult
+                || !(error instanceof InterruptedException) && isWanted.test(error);
             if (!isRetried || budget != null && !budget.take()) {
                 return -1;
             }
@@ -352,12 +361,14 @@ public final class Retry implements Cloneable {
             }
             long nanos = nanos(result.next()) - Math.max(now, nanos(planned));
             if (jitter > 0) {
-                nanos = Math.min(nanos, (long) (nanos(result.next() - moment) * (1 - jitter * ThreadLocalRandom.current().nextDouble())));
+                double part = 1 - jitter * ThreadLocalRandom.current().nextDouble();
+                nanos = Math.min(nanos, (long) (nanos(result.next() - moment) * part));
             }
             Duration least = retryAfter.apply(error);
             long most = TimeUnit.NANOSECONDS.convert(retryAfterMost);
             planned = result.next();
-            return Math.max(Math.max(nanos, 0), least == null ? 0 : Math.min(TimeUnit.NANOSECONDS.convert(least), most));
+            long longer = least == null ? 0 : Math.min(TimeUnit.NANOSECONDS.convert(least), most);
+            return Math.max(Math.max(nanos, 0), longer);
         }
 
         /** Sleeps these nanoseconds from the last step. */
@@ -381,5 +392,7 @@ public final class Retry implements Cloneable {
     }
 
     /** Returns milliseconds, which are unsigned, as nanoseconds: 292 years at most. */
-    private static long nanos(long millis) { return Long.compareUnsigned(millis, LONGEST) > 0 ? Long.MAX_VALUE : millis * 1_000_000; }
+    private static long nanos(long millis) {
+        return Long.compareUnsigned(millis, LONGEST) > 0 ? Long.MAX_VALUE : millis * 1_000_000;
+    }
 }

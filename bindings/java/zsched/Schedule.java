@@ -24,19 +24,21 @@ public final class Schedule {
             try {
                 Native.register(Calls.class, System.getProperty("zsched.library", "zsched"));
             } catch (UnsatisfiedLinkError fault) {
-                throw new UnsatisfiedLinkError(fault.getMessage() + "\nzsched: the jar has the library for Linux on x86-64 with "
-                    + "glibc; else name a built libzsched.so in the property zsched.library");
+                throw new UnsatisfiedLinkError(fault.getMessage() + "\nzsched: the jar has the library for Linux on "
+                    + "x86-64 with glibc; else name a built libzsched.so in the property zsched.library");
             }
         }
 
         static native int zs_check(byte[] text, long textLength, long[] at);
-        static native int zs_answer(byte[] text, long textLength, long[] seen, long pairs, long[] reply, byte[] out, long room);
-        static native int zs_bounds(byte[] text, long textLength, long[] durations, long steps, long[] bounds, long[] at);
+        static native int zs_answer(byte[] text, long textLength, long[] seen, long pairs, long[] reply, byte[] out,
+            long room);
+        static native int zs_bounds(byte[] text, long textLength, long[] durations, long steps, long[] bounds,
+            long[] at);
         static native int zs_program_size(byte[] text, long textLength, long[] size, long[] stateSize, long[] at);
         static native int zs_compile(byte[] text, long textLength, long[] program, long words, long[] at);
         static native int zs_program_begin(long[] program, long words, long[] state, long stateWords);
-        static native int zs_program_step(long[] program, long words, long[] state, long stateWords, long moment, long input,
-            long[] reply, byte[] out, long room);
+        static native int zs_program_step(long[] program, long words, long[] state, long stateWords, long moment,
+            long input, long[] reply, byte[] out, long room);
         static native long zs_fault_text(int number, long at, byte[] out, long room);
         static native int zs_version();
     }
@@ -50,7 +52,8 @@ public final class Schedule {
         /** Returns the time from a moment, which is at most {@code next}, to the next attempt. */
         public Duration waitFrom(long moment) {
             long millis = next - moment;
-            return Duration.ofSeconds(Long.divideUnsigned(millis, 1000), Long.remainderUnsigned(millis, 1000) * 1_000_000);
+            long nanos = Long.remainderUnsigned(millis, 1000) * 1_000_000;
+            return Duration.ofSeconds(Long.divideUnsigned(millis, 1000), nanos);
         }
     }
 
@@ -61,11 +64,13 @@ public final class Schedule {
      * together, and when each attempt ends at most, from the begin of the first; in milliseconds.
      * {@code most}, {@code total} and {@code longestRun} are empty if there is no bound.
      */
-    public record Bounds(long seen, long least, OptionalLong most, long longest, OptionalLong total, OptionalLong longestRun) {
+    public record Bounds(long seen, long least, OptionalLong most, long longest, OptionalLong total,
+            OptionalLong longestRun) {
         /** Returns whether there are at most {@code most} attempts, and so much wait in all. */
         public boolean within(long most, Duration total) {
-            return this.most.isPresent() && Long.compareUnsigned(this.most.getAsLong(), most) <= 0 && this.total.isPresent()
-                && Long.compareUnsigned(this.total.getAsLong(), total.toMillis()) <= 0 && !total.isNegative();
+            return this.most.isPresent() && Long.compareUnsigned(this.most.getAsLong(), most) <= 0
+                && this.total.isPresent() && Long.compareUnsigned(this.total.getAsLong(), total.toMillis()) <= 0
+                && !total.isNegative();
         }
 
         /** Returns whether each call ends within {@code run}, attempts and waits together. */
@@ -139,7 +144,7 @@ public final class Schedule {
         return result;
     }
 
-    /** Returns the result of a call, which is made again with more room if the output doesn't fit, or throws its error. */
+    /** Returns the result of a call, which is made again if the output doesn't fit, or throws its error. */
     static Answer resultOf(ToIntBiFunction<long[], byte[]> call) {
         long[] reply = new long[4];
         byte[] out = new byte[ROOM];
@@ -149,7 +154,8 @@ public final class Schedule {
             number = call.applyAsInt(reply, out);
         }
         refuse(number, reply[3]);
-        return new Answer(number == DONE, reply[0], new String(out, 0, (int) reply[1], StandardCharsets.US_ASCII), reply[2]);
+        String output = new String(out, 0, (int) reply[1], StandardCharsets.US_ASCII);
+        return new Answer(number == DONE, reply[0], output, reply[2]);
     }
 
     /**
@@ -161,11 +167,13 @@ public final class Schedule {
     /** Does the same if each attempt takes {@code least} to {@code most}; null is no such limit. */
     public static Bounds bounds(String text, long steps, Duration least, Duration most) {
         byte[] bytes = text.getBytes(StandardCharsets.UTF_8);
-        long[] durations = most == null ? new long[] {least.toMillis(), 0, 0} : new long[] {least.toMillis(), 1, most.plusNanos(999_999).toMillis()};
+        long longest = most == null ? 0 : most.plusNanos(999_999).toMillis();
+        long[] durations = {least.toMillis(), most == null ? 0 : 1, longest};
         long[] found = new long[9];
         long[] at = new long[1];
         refuse(Calls.zs_bounds(bytes, bytes.length, durations, steps, found, at), at[0]);
-        return new Bounds(found[0], found[1], limit(found[2], found[3]), found[4], limit(found[5], found[6]), limit(found[7], found[8]));
+        return new Bounds(found[0], found[1], limit(found[2], found[3]), found[4], limit(found[5], found[6]),
+            limit(found[7], found[8]));
     }
 
     private static OptionalLong limit(long isThere, long number) {

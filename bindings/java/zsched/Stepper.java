@@ -65,7 +65,8 @@ public final class Stepper {
         long[][] stepped = new long[1][];
         Schedule.Answer result = Schedule.resultOf((reply, out) -> {
             long[] words = stepped[0] = state.clone();
-            return Schedule.Calls.zs_program_step(program, program.length, words, words.length, moment, input, reply, out, out.length);
+            return Schedule.Calls.zs_program_step(program, program.length, words, words.length, moment, input, reply,
+                out, out.length);
         });
         state = stepped[0];
         return result;

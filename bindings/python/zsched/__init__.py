@@ -16,6 +16,6 @@ from .faults import Fault, ScheduleFault
 from .retries import Attempt, Retrying, Statistics, Tried, retrying
 from .schedules import Answer, Bounds, Schedule, Stepper, bounds, check
 
-__all__ = ["Answer", "Attempt", "Bounds", "Budget", "Fault", "Retrying", "Schedule", "ScheduleFault", "Statistics", "Stepper",
-           "Tried", "bounds", "check", "retrying"]
+__all__ = ["Answer", "Attempt", "Bounds", "Budget", "Fault", "Retrying", "Schedule", "ScheduleFault", "Statistics",
+           "Stepper", "Tried", "bounds", "check", "retrying"]
 __version__ = "0.3.0"

@@ -21,8 +21,8 @@ class Durations(ctypes.Structure):
 
 class Told(ctypes.Structure):
     """What zs_bounds returns: struct zs_bounds."""
-    _fields_ = [(name, ctypes.c_uint64) for name in ["seen", "least", "has_most", "most", "longest", "has_total", "total",
-                                                     "has_longest_run", "longest_run"]]
+    _fields_ = [(name, ctypes.c_uint64) for name in ["seen", "least", "has_most", "most", "longest", "has_total",
+                                                     "total", "has_longest_run", "longest_run"]]
 
 
 def _place() -> str:

@@ -132,7 +132,8 @@ class Run:
     def sleep(self) -> None:
         """Sleeps until the next attempt may begin."""
         if self.by.sleep is not None:
-            refuse_awaitable(self.by.sleep(self.wait), f"{self.by.sleep!r} sleeps asynchronously, and the function or loop doesn't")
+            refuse_awaitable(self.by.sleep(self.wait),
+                             f"{self.by.sleep!r} sleeps asynchronously, and the function or loop doesn't")
         else:
             while (rest := self.until - self.by.clock()) > 0:
                 time.sleep(rest)
@@ -159,8 +160,8 @@ class Run:
         return result
 
     def number_of(self, name: str, failure: typing.Any, convert: collections.abc.Callable[[typing.Any], T]) -> T | None:
-        """Returns what a hook returns for an error or result, which has to be a number. If it is none, adds a note to the
-        error and returns None; a result has no notes, so then it raises ValueError."""
+        """Returns what a hook returns for an error or result, which has to be a number. If it is none, adds a note to
+        the error and returns None; a result has no notes, so then it raises ValueError."""
         try:
             return convert(getattr(self.by, name)(failure))
         except Exception as fault:
@@ -223,8 +224,9 @@ class Run:
         wait, until = max(wait, least), max(until, now + least)
         self.wait, self.until, self.planned, self.is_over = wait, until, following, False
         if self.by.sleep is None and wait > LONGEST:
-            raise OverflowError(f"zsched: the next attempt is {wait:.0f} seconds away, and the longest wait is {LONGEST:.0f}"
-                                ) from (failure if isinstance(failure, BaseException) else None)
+            cause = failure if isinstance(failure, BaseException) else None
+            raise OverflowError(f"zsched: the next attempt is {wait:.0f} seconds away, and the longest wait is "
+                                f"{LONGEST:.0f}") from cause
 
 
 class Tried(typing.Protocol[P, R]):
@@ -334,7 +336,8 @@ class Retrying:
             raise _no_generator(function)
         is_late, by = _is_asynchronous(function), self.with_()
         if self.attempt_most is not None and not is_late:
-            raise TypeError(f"zsched: {function!r} is not asynchronous, so attempt_most can't end it: use a loop, and left()")
+            raise TypeError(f"zsched: {function!r} is not asynchronous, so attempt_most can't end it: use a loop, "
+                            "and left()")
         tried = (_asynchronous if is_late else _synchronous)(by, function)
         tried.statistics, tried.with_ = by.statistics, lambda **changes: by.with_(**changes)(function)
         return typing.cast(Tried[P, R], tried)
@@ -342,13 +345,15 @@ class Retrying:
 
 def _is_asynchronous(function: typing.Any) -> bool:
     """Returns whether a function, or an object's `__call__`, is a coroutine function."""
-    return inspect.iscoroutinefunction(function) or inspect.iscoroutinefunction(getattr(type(function), "__call__", None))
+    call = getattr(type(function), "__call__", None)
+    return inspect.iscoroutinefunction(function) or inspect.iscoroutinefunction(call)
 
 
 def _no_generator(function: typing.Any) -> TypeError:
     """Returns the error for a function that returns a generator."""
     name = getattr(function, "__qualname__", repr(function))
-    return TypeError(f"zsched: {name} returns a generator, whose body runs after the call: decorate the function that uses it")
+    return TypeError(f"zsched: {name} returns a generator, whose body runs after the call: decorate the function that "
+                     "uses it")
 
 
 def _synchronous(by: Retrying, function: typing.Any) -> typing.Any:
@@ -384,7 +389,8 @@ def _asynchronous(by: Retrying, function: typing.Any) -> typing.Any:
     return tried
 
 
-async def _awaited(run: Run, function: typing.Any, arguments: typing.Any, named: typing.Any, begun: typing.Any) -> typing.Any:
+async def _awaited(run: Run, function: typing.Any, arguments: typing.Any, named: typing.Any,
+                   begun: typing.Any) -> typing.Any:
     """Awaits an attempt that has begun, and those that follow."""
     while True:
         try:
