@@ -99,8 +99,7 @@ def python(_, place):
 def go_variables(place):
     """The variables with which Go finds the library and uses no network."""
     return {"CGO_CFLAGS": f"-I{place.include}", "CGO_LDFLAGS": f"-L{place.library}",
-            "LD_LIBRARY_PATH": str(place.library),
-            "GOPROXY": "off", "GOFLAGS": "-mod=readonly -buildvcs=false"}
+            "LD_LIBRARY_PATH": str(place.library), "GOPROXY": "off", "GOFLAGS": "-mod=readonly -buildvcs=false"}
 
 
 def go(room, place):
@@ -117,8 +116,7 @@ def go(room, place):
     shutil.copy(CLIENTS / "client.go", room / "client")
     (room / "client" / "go.mod").write_text(f"module client\n\ngo 1.19\n\nrequire {module} {name}\n")
     ran(["go", "build", "-o", room / "answers", "."], room / "client", GOPROXY=f"file://{room / 'proxy'}",
-        GONOSUMDB="*",
-        GOMODCACHE=room / "cache", GOFLAGS="-mod=mod -modcacherw")
+        GONOSUMDB="*", GOMODCACHE=room / "cache", GOFLAGS="-mod=mod -modcacherw")
     return Client([room / "answers"], {})
 
 
@@ -160,8 +158,7 @@ def rust(room, place, crate=BINDINGS / "rust"):
 
 LANGUAGES = {"C": c, "C watched": lambda room, place: c(room, place, *WATCHED),
              "C++": lambda room, place: c(room, place, compiler=CPP), "Python": python, "Go": go, "Node": node,
-             "Java": java,
-             "Rust": rust}
+             "Java": java, "Rust": rust}
 
 
 @pytest.fixture(scope="session")

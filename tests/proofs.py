@@ -9,6 +9,7 @@ import re
 import signal
 import subprocess
 import sys
+import time
 
 sys.dont_write_bytecode = True
 
@@ -18,6 +19,8 @@ import toolchain
 LAST = re.compile(r"(\d+) passed, (\d+) failed")
 REJECTED = re.compile(r"rt: must-fail (\S+): refused, as it must be")
 BAD = re.compile(r"BAD EDIT|NOT TRIED|NOT REFUSED")
+# A step of a crate, which is shown with its time.
+STEP = re.compile(r"rt: (?:\w+(?:: its tests are)? proved$|\w+ is kept|\w+: trying its must-fail edits)")
 
 
 def edits():
@@ -52,14 +55,15 @@ def main():
     words = argparse.ArgumentParser(description=__doc__)
     words.add_argument("--anew", action="store_true", help="repeat what an earlier run passed")
     is_anew = words.parse_args().anew
-    before, wanted, lines = toolchain.sources_sum(), edits(), []
+    before, wanted, lines, begun = toolchain.sources_sum(), edits(), [], time.monotonic()
     running = subprocess.Popen(["rt", "ci", *["--anew"] * is_anew], cwd=TOP, env=variables(), text=True,
                                errors="replace", stdout=subprocess.PIPE, stderr=subprocess.STDOUT)
     try:
         for line in running.stdout:
             lines.append(line.rstrip("\n"))
+            at = f" ({time.monotonic() - begun:.0f} s)" if STEP.match(line) else ""
             if not LAST.match(line):
-                print(line, end="", flush=True)
+                print(lines[-1] + at, flush=True)
     finally:
         running.send_signal(signal.SIGTERM)
         running.wait()

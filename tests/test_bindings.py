@@ -192,8 +192,7 @@ def test_a_million_steps_take_flat_time_and_memory(client, name):
         begun, spent, memory = time.monotonic(), [], []
         it = client(name)
         with subprocess.Popen(list(map(str, it.words)), env=CLEAN | it.variables, stdin=subprocess.PIPE,
-                              stdout=subprocess.PIPE,
-                              text=True) as running:
+                              stdout=subprocess.PIPE, text=True) as running:
             running.stdin.write(f"{request('many', policy, MANY)}\n")
             running.stdin.flush()
             for _ in range(10):

@@ -162,8 +162,7 @@ class Root:
 
     def dpkg(self, *words):
         ran(["dpkg", f"--root={self.path}", "--force-not-root", "--force-script-chrootless", "--log=/dev/null",
-             *words], self.folder,
-            PATH=f"{os.environ['PATH']}:/sbin")
+             *words], self.folder, PATH=f"{os.environ['PATH']}:/sbin")
 
     def purge(self):
         """Removes the packages again; nothing of them may remain."""
@@ -206,8 +205,7 @@ def packages(root, language):
 def pip(root, package):
     """The client in Python, over a package that pip installs into an empty folder."""
     ran([PYTHON, "-m", "pip", "install", "--quiet", "--no-index", "--no-deps", "--no-build-isolation", "--target",
-         "site",
-         package], root.folder)
+         "site", package], root.folder)
     assert (root.folder / "site/zsched/py.typed").exists()
     return Client([PYTHON, "-B", CLIENTS / "client.py"], {"PYTHONPATH": str(root.folder / "site")})
 
@@ -220,8 +218,8 @@ def wheel(root):
     said = next(root.folder.glob("site/zsched-*/WHEEL")).read_text()
     assert f"Root-Is-Purelib: false\nTag: {tag[1]}\n" in said
     headers = output_of(["objdump", "-p", root.folder / "site/zsched/libzsched.so"])
-    assert re.findall(r"NEEDED +(\S+)", headers) == ["libc.so.6"] and re.search(r"STACK .*\n.* flags rw-$", headers,
-                                                                                re.M)
+    assert re.findall(r"NEEDED +(\S+)", headers) == ["libc.so.6"]
+    assert re.search(r"STACK .*\n.* flags rw-$", headers, re.M)
     assert all(int(minor) <= int(tag[2]) for minor in re.findall(r"GLIBC_2\.(\d+)", headers))
     return client
 
@@ -232,8 +230,7 @@ def crate(root):
     shutil.unpack_archive(packages(root, "rust")[0], root.folder, "gztar")
     folder = root.folder / f"zsched-{VERSION}"
     ended = subprocess.run(["cargo", "package", "--offline", "--allow-dirty"], cwd=folder, capture_output=True,
-                           text=True,
-                           check=False, env={**CLEAN, "CARGO_TARGET_DIR": str(root.folder / "made")})
+                           text=True, check=False, env={**CLEAN, "CARGO_TARGET_DIR": str(root.folder / "made")})
     assert ended.returncode == 0 and "warning" not in ended.stderr, ended.stderr
     shutil.unpack_archive(root.folder / f"made/package/zsched-{VERSION}.crate", root.folder / "registry", "gztar")
     return languages.rust(root.folder, None, root.folder / "registry" / folder.name)
@@ -246,8 +243,7 @@ def npm(root):
     ran(["npm", "install", "--offline", "--no-audit", "--no-fund", *packages(root, "node")], root.folder,
         npm_config_cache="cache")
     ended = subprocess.run(["node", "-e", "require('zsched')"], cwd=root.folder, capture_output=True, text=True,
-                           check=False,
-                           env=CLEAN | {"ZSCHED_NODE": "/nowhere"})
+                           check=False, env=CLEAN | {"ZSCHED_NODE": "/nowhere"})
     assert ("Error: zsched: /nowhere can't be loaded on linux on x64. The package has it for Linux on x64"
             in ended.stderr)
     shutil.copy(CLIENTS / "client.js", root.folder)
@@ -268,9 +264,9 @@ def maven(root):
     (root.folder / "src/main/java").mkdir(parents=True)
     shutil.copy(CLIENTS / "Client.java", root.folder / "src/main/java")
     needed = f"<groupId>io.github.zsched</groupId><artifactId>zsched</artifactId><version>{VERSION}</version>"
-    (root.folder / "pom.xml").write_text(made[-1].read_text().replace("<artifactId>zsched<",
-                                                                      "<artifactId>client<").replace(
-        "<dependencies>", f"<dependencies><dependency>{needed}</dependency>"))
+    pom = made[-1].read_text().replace("<artifactId>zsched<", "<artifactId>client<")
+    pom = pom.replace("<dependencies>", f"<dependencies><dependency>{needed}</dependency>")
+    (root.folder / "pom.xml").write_text(pom)
     ran(["mvn", "--offline", "--quiet", "-Dmaven.repo.local=repository", "compile"], root.folder)
     return Client(["java", "-cp", f"{JNA}:{made[0]}:{root.folder / 'target/classes'}", "Client"], {})
 
@@ -283,8 +279,8 @@ INSTALLED = {
     "C++": lambda root: languages.c(root.folder, root.place(install(root)), compiler=languages.CPP)}
 
 
-@pytest.mark.parametrize("name",
-                         [pytest.param(it, marks=[pytest.mark.full] * (it in ["jar", "Maven"])) for it in INSTALLED])
+@pytest.mark.parametrize("name", [
+    pytest.param(it, marks=[pytest.mark.full] * (it in ["jar", "Maven"])) for it in INSTALLED])
 def test_a_client_of_what_is_installed_retries_and_steps(name, root):
     client = INSTALLED[name](root)
     for text, code, times, wanted, waits in [(POLICY, 503, 3, "done", [40, 80, 100]), (POLICY, 404, 9, "404", []),
