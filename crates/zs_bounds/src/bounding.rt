@@ -31,6 +31,7 @@ pub fn bounds(
     steps: u64,
 ) -> Result<Bounds, AllocError>
     ensures promises { IfOk result (Promises (schedule_of checked.now) durations) }
+    // The numbers are a function of schedule, durations and number of steps.
     ensures value { IfOk result (λ b. b ≡ bounds_of (schedule_of checked.now) durations steps) }
 {
     let (mut node, first) = node_of(alloc, checked.term())?;

@@ -56,7 +56,8 @@ fn print<W: Drain>(writer: &mut W, text: &str) -> Result<(), BoundsFault>
     }
 }
 
-/// Does what the words after the program's name say.
+/// Does what the words after the program's name say. At success it wrote and flushed the bounds of
+/// the lines, or the text of an option, and nothing else. Wrong words write nothing.
 pub fn run_words<R: Source, W: Drain>(
     alloc: Global,
     words: &[String],

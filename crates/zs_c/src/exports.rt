@@ -49,6 +49,7 @@ pub fn zs_answer(
 ) -> u32
     ensures answered { result ≤ 1
         → IsAnswered text.now (pairs_of seen.now) result reply.new out.old out.new }
+    // Also if there is no pair, or for the first falling moment. All other fields are 0.
     ensures refused { 1 < result → IsRefused text.now (pairs_of seen.now) result reply.new }
     ensures kept { 1 < result → out.new ≡ out.old }
 {

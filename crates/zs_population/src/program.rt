@@ -39,7 +39,10 @@ fn print<W: Drain>(writer: &mut W, text: &str) -> Result<(), PopulationFault>
     }
 }
 
-/// Does what the words after the program's name say: without a word, it runs all jobs.
+/// Does what the words after the program's name say: without a word, it runs all jobs. The report
+/// of a range of jobs is followed by its trailer. `--check` joins reports of ranges that follow
+/// each other up to the last job, each with a trailer of this population. A failed write has
+/// written the first `sent` bytes. Wrong words write nothing.
 pub fn run_words<T: Threads + Wait + Sync, G: Gate, F: Files, R: Source, W: Drain>(
     rt: &T,
     alloc: Global,

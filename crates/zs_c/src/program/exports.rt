@@ -26,6 +26,7 @@ pub fn zs_program_size(
 ) -> u32
     ensures sized { result ≡ 0 → IsProgramSized text.now size.new state_size.new }
     ensures nowhere { result ≡ 0 → at.new ≡ 0 }
+    // Also for a schedule with a list, which has no program.
     ensures refused { 0 < result → IsRefusedFor (IsSizeRefusal text.now) result at.new }
     ensures nothing { 0 < result → (size.new ≡ 0) × (state_size.new ≡ 0) }
 {
@@ -45,6 +46,7 @@ pub fn zs_program_size(
 pub fn zs_compile(alloc: Global, text: &[u8], program: &mut [u64], at: &mut u64) -> u32
     ensures compiled { result ≡ 0 → IsCompiled text.now program.old program.new }
     ensures nowhere { result ≡ 0 → at.new ≡ 0 }
+    // Also for a schedule with a list, or if there are too few words for the program.
     ensures refused { 0 < result
         → IsRefusedFor (IsCompileRefusal text.now (length program.old)) result at.new }
     ensures kept { 0 < result → program.new ≡ program.old }
@@ -67,7 +69,9 @@ pub fn zs_compile(alloc: Global, text: &[u8], program: &mut [u64], at: &mut u64)
 pub fn zs_program_begin(program: &[u64], state: &mut [u64]) -> u32
     ensures begun { result ≡ 0 → (t : Schedule) → IsProgram program.now t
         → IsProgramBegun t state.old state.new }
+    // The words have a version, a code and its check word.
     ensures checked { result ≡ 0 → IsChecked program.now }
+    // No program, or too few words for its state.
     ensures refused { 0 < result → IsDeniedFor (IsUnfit program.now state.old) result }
     ensures kept { 0 < result → state.new ≡ state.old }
 {
@@ -93,8 +97,11 @@ pub fn zs_program_step(
 ) -> u32
     ensures stepped { result ≤ 1 → (t : Schedule) → IsProgram program.now t
         → IsProgramStepped t state.old state.new moment input result reply.new out.old out.new }
+    // The words have a version, a code and its check word.
     ensures checked { result ≤ 1 → IsChecked program.now }
+    // A step of such words leaves the state's first word, and what follows the state.
     ensures safe { result ≤ 1 → IsStepSafe program.now state.old state.new moment }
+    // No program, too few words, another program's state, or a moment below the last one.
     ensures refused { 1 < result → IsDeniedFor (IsDenied program.now state.old moment) result }
     ensures nothing { 1 < result → reply.new ≡ record { next = 0; size = 0; visits = 0; at = 0 } }
     ensures stays { 1 < result → state.new ≡ state.old }
