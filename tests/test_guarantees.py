@@ -1,5 +1,5 @@
-"""docs/PROMISES.md is what build/guarantees prints of the sources, and docs/GUARANTEES.md names what exists: files,
-tests, and calls with their clauses."""
+"""docs/PROMISES.md is what build/guarantees prints of the sources, and docs/GUARANTEES.md names tests and files that
+exist."""
 import re
 import runpy
 import types
@@ -20,9 +20,7 @@ each_crate = pytest.mark.parametrize("crate", guarantees.CRATES)
 
 
 def quoted(text):
-    """The names in backquotes. `Out::{number, size}` is `Out::number` and `Out::size`."""
-    groups = [re.fullmatch(r"(.*?)(?:\{(.*)\})?", it).groups() for it in re.findall(r"`([^`]*)`", text)]
-    return [of + name.strip() for of, names in groups for name in (names or "").split(",")]
+    return " ".join(re.findall(r"`([^`]*)`", text)).split()
 
 
 def test_the_page_is_printed_from_the_sources():
@@ -45,18 +43,6 @@ def test_each_wrong_body_breaks_a_promise(crate):
     assert sorted(edits.difference(*(names for each in behind for names in each))) == []
 
 
-def test_the_page_names_calls_that_have_its_clauses():
-    """Of each row of the table of what the sentences leave out."""
-    items = [it for crate in guarantees.CRATES for it in guarantees.promises_of(crate)]
-    section, names = PAGE.split("\n## What the sentences leave out\n")[1], []
-    rows = re.findall(r"^\| (.*) \| (`.*`) \| .* \|$", section, re.M)
-    for call, labels in rows:
-        names = quoted(call) or names
-        found = [it for it in items if it.name in names or it.name.rpartition("::")[2] in names]
-        assert names and {*quoted(labels)} <= {label for it in found for _, label, *_ in it.clauses}, call
-    assert len(rows) > 10
-
-
 def test_the_tests_that_the_page_names_exist():
     texts = [guarantees.text_of(str(folder.relative_to(TOP))) for folder in guarantees.TESTS]
     tests = {name for text in texts for name in NAMED.findall(text)}
@@ -68,7 +54,7 @@ def test_the_tests_that_the_page_names_exist():
 
 def test_the_files_that_the_page_names_exist():
     homes = [TOP, TOP / "docs", *(folder / "tests" for folder in guarantees.TESTS)]
-    assert [name for name in " ".join(quoted(PAGE)).split() if FILE.fullmatch(name) and "NAME" not in name
+    assert [name for name in quoted(PAGE) if FILE.fullmatch(name) and "NAME" not in name
             and not any((home / name).is_file() for home in homes)] == []
 
 

@@ -103,6 +103,7 @@ impl Task {
     #[tactic(auto, using(crate::proofs::Standing::standing))]
     pub fn polls(&self) -> u64
         ensures value { result ≡ length self.now.moments }
+        // Each moment at which an attempt began or ended, once.
         ensures moments { self.now.moments ≡ poll_moments (current_timeline self.now).attempts }
     {
         self.progress.polls
@@ -164,9 +165,11 @@ impl Future for Task {
     /// attempt if that is due too. If memory runs out, it returns `Memory`, and the task is broken.
     fn poll(&mut self, cx: &mut Context<'_>) -> Poll<Result<Ending, DriveFault>>
         ensures answered { MatchMemory result ⊤ (WasPolled self.old self.new result) }
+        // Only due polls and broken tasks return `Memory`.
         ensures memory { MatchMemory result (Breaks self.old self.new) ⊤ }
         ensures early { self.old.broken ≡ false → IsNotYetDue self.old
             → (result ≡ Poll.Pending) × (self.new ≡ self.old) }
+        // After the ending a poll returns it, and changes nothing.
         ensures over { IfSome (current_timeline self.old).ending (λ ending.
             (result ≡ Poll.Ready (Ok ending)) × (self.new ≡ self.old)) }
         // A success of a retry and a failure of a repeat take no memory, so they are never lost.
@@ -174,6 +177,8 @@ impl Future for Task {
             → EndsByOutcome self.old ending → result ≡ Poll.Ready (Ok ending) }
         ensures same { (self.new.number ≡ self.old.number) × (self.new.job ≡ self.old.job)
             × (self.new.seen ≡ self.old.seen) }
+        // For executors: a pending poll arranges the next one, and nothing that was arranged is
+        // lost.
         ensures armed { OnPending result (IsArmed cx.new) }
         ensures kept { Keeps cx.old cx.new }
     {

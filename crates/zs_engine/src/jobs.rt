@@ -26,7 +26,8 @@ pub fn run_jobs<G: Gate, R: Threads + Wait + Sync>(
     jobs: Vec<Job>,
 ) -> Result<Answer, EngineFault>
     requires few { length jobs.items ≤ max_tasks }
-    // Each task has the timeline of its job alone, and each due poll was counted once.
+    // The tasks are those of the jobs in order, none broken. Each has the timeline of its job
+    // alone, and each due poll was counted once, for every cut and gate.
     ensures answer { IfOk result (IsAnswer clock (map job_record jobs.items)) }
 {
     let mut engine = Engine::new(alloc, clock)?;

@@ -190,7 +190,7 @@ impl Board {
         Ok((pass, BoardPass { queue, seat, none }))
     }
 
-    /// Joins two passes into one, which took what both took.
+    /// Joins two passes into one, which took what both took. Their shares are added.
     pub fn join<R>(&self, _rt: &R, mut pass: BoardPass, other: BoardPass) -> BoardPass
         requires pass { pass.board ≡ self.now }
         requires other { other.board ≡ self.now }

@@ -61,11 +61,13 @@ pub fn round_in<G: Gate, R: Threads + Wait + Sync>(
     requires tally { seat.old.tally ≡ tally.now }
     // Each worker may have to count all tasks.
     requires allowance { cut.workers * length tasks.items ≤ seat.old.allowance }
+    // The same tasks in order, none of them broken.
     ensures tasks { IfOk result (λ after. after.items ≡ map (polled_at now) tasks.items) }
     ensures tally { OnOk result (seat.new.tally ≡ tally.now) }
     // Each poll was counted once.
     ensures count { OnOk result (seat.new.count ≡ seat.old.count + length tasks.items) }
     ensures allowance { OnOk result (seat.new.allowance + length tasks.items ≡ seat.old.allowance) }
+    // `Memory` or `NoThread`.
     ensures fault { IfErr result (λ e. e ≢ Full) }
 {
     let due = tasks.len() as u64;
@@ -109,11 +111,13 @@ pub fn round<G: Gate, R: Threads + Wait + Sync>(
     requires tally { seat.old.tally ≡ tally.now }
     // Each worker may have to count all tasks.
     requires allowance { cut.workers * length tasks.items ≤ seat.old.allowance }
+    // The same tasks in order, none of them broken.
     ensures tasks { IfOk result (λ after. after.items ≡ map (polled_at now) tasks.items) }
     ensures tally { OnOk result (seat.new.tally ≡ tally.now) }
     // Each poll was counted once.
     ensures count { OnOk result (seat.new.count ≡ seat.old.count + length tasks.items) }
     ensures allowance { OnOk result (seat.new.allowance + length tasks.items ≡ seat.old.allowance) }
+    // `Memory` or `NoThread`.
     ensures fault { IfErr result (λ e. e ≢ Full) }
 {
     let poller = Poller::new(alloc)?;

@@ -129,7 +129,7 @@ impl Shelf {
         Ok((pass, ShelfPass { queue }))
     }
 
-    /// Joins two passes into one, which put and took what both did.
+    /// Joins two passes into one, which put and took what both did. Their shares are added.
     pub fn join<R>(&self, _rt: &R, mut pass: ShelfPass, other: ShelfPass) -> ShelfPass
         requires pass { pass.shelf ≡ self.now }
         requires other { other.shelf ≡ self.now }
@@ -150,6 +150,7 @@ impl Shelf {
     ) -> Result<Vec<Polled>, PoolFault>
         requires shelf { pass.shelf ≡ self }
         requires whole { pass.share ≡ max_moment }
+        // What all passes took, with what remains, is a rearrangement of what was put.
         ensures left { IfOk result (λ left. IsPermutation pass.put (pass.taken ++ left.items)) }
         ensures memory { IfErr result (λ e. e ≡ Memory) }
     {

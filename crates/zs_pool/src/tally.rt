@@ -143,7 +143,7 @@ impl Tally {
         (seat, other)
     }
 
-    /// Joins two seats into one: their counts and allowances are added.
+    /// Joins two seats into one: their counts and allowances are added. It saw the greater value.
     pub fn join(&self, mut seat: TallySeat, other: TallySeat) -> TallySeat
         requires seat { seat.tally ≡ self.now }
         requires other { other.tally ≡ self.now }

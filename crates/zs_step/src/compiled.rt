@@ -42,6 +42,7 @@ impl Compiled {
         ensures term { IfOk result (λ c. compiled_term c ≡ checked) }
         // It represents the empty history.
         ensures stands { IfOk result (λ c. StandsFor c []) }
+        // A leaf's state takes no memory.
         ensures succeeds { is_leaf (schedule_of checked) ≡ true → IsOk result }
     {
         let state = state_of(alloc, checked.term())?;
@@ -68,11 +69,15 @@ impl Compiled {
         self.broken
     }
 
-    /// Steps the schedule with a moment in milliseconds and an input. If the step runs out of
-    /// memory, the schedule is broken: each later step fails with `Memory` and changes nothing.
+    /// Steps the schedule with a moment in milliseconds and an input. Returns what `plain` returns
+    /// for the represented history and this pair; the state then represents the longer history. If
+    /// the step runs out of memory, the schedule is broken: each later step fails with `Memory` and
+    /// changes nothing.
     pub fn step(&mut self, now: u64, input: u64) -> Result<Stepped, StepFault>
         requires order { last_seen self.old ≤ now }
         ensures term { compiled_term self.new ≡ compiled_term self.old }
+        // The last moment seen is never after the step's. A schedule that makes no pair, no side of
+        // a choice and no list needs no memory.
         ensures steps { Steps self.old self.new now input result }
     {
         let (decision, visits) = self.advance(now, input)?;

@@ -70,6 +70,7 @@ pub fn check(alloc: Global, term: Term) -> Result<Checked, TermFault>
     ensures schedule { IfOk result (λ checked. IsSchedule (schedule_of checked)) }
 
     ensures err { IfErr result (IsTermCause (schedule_of term)) }
+    // `TooBig` and `BadFactor` come exactly if they apply.
     ensures too_big { result ≡ Err TermFault.TooBig ↔ is_within_limits (schedule_of term) ≡ false }
     ensures bad_factor { result ≡ Err TermFault.BadFactor
         ↔ IsTermCause (schedule_of term) TermFault.BadFactor }

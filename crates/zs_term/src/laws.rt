@@ -24,7 +24,8 @@ pub fn one_verdict()
     ensures law { OneVerdict }
 {}
 
-/// The canonical spelling of a term spells it, whatever its size and kind.
+/// The canonical spelling of a term spells it, whatever its size and kind, if its numbers are below
+/// 2^64.
 pub fn canonical_spells()
     ensures law { CanonicalSpells }
 {}

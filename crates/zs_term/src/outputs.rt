@@ -232,9 +232,9 @@ impl Pick {
 }
 
 impl Func {
-    /// Returns the function's result. If the function doesn't fit, `_1`, `_2` and `merge` return
-    /// the output itself, `size` returns 0, and `+` and `*` read an output that isn't a number as
-    /// 0.
+    /// Returns the function's result. Sums and products saturate at 2^64 - 1. If the function
+    /// doesn't fit, `_1`, `_2` and `merge` return the output itself, `size` returns 0, and `+` and
+    /// `*` read an output that isn't a number as 0.
     pub fn apply(self, out: Out) -> Out
         ensures value { output_of result ≡ applied self (output_of out) }
     {
