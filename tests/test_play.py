@@ -77,12 +77,17 @@ def test_the_page_says_what_holds_for_every_input(url):
         assert asked(url, question(policy), f"/report{query}")["bounds"] == {policy: said + end}
 
 
-@pytest.mark.parametrize("is_proved", [True, False])
-def test_bounds_of_an_unproved_program_say_so(zsched, is_proved, bounds, tmp_path):
+@pytest.fixture(params=["", "unproved: "], ids=["proved", "unproved"])
+def marked(request, bounds, tmp_path):
+    """The program of bounds, proved or not, and what is said before its bounds."""
     subprocess.run(["strip", "-o", tmp_path / "bounds", bounds], check=True)
     with open(tmp_path / "bounds", "ab") as file:
-        file.write(b"" if is_proved else b"\nunproved\n")
-    assert command.answer(zsched, question("recurs(3)"), 10, str(tmp_path / "bounds"))["proved"] is is_proved
+        file.write(b"\nunproved\n" if request.param else b"")
+    return str(tmp_path / "bounds"), request.param
+
+
+def test_bounds_of_an_unproved_program_say_so(zsched, marked):
+    assert command.answer(zsched, question("recurs(3)"), 10, marked[0])["proved"] is not bool(marked[1])
 
 
 # The status of the program of bounds, or null for none, the policies, and what is said of them.
@@ -209,13 +214,10 @@ def test_it_ends_when_it_is_told_to(zsched, number):
 
 
 @pytest.mark.full
-@pytest.mark.parametrize("end, mark", [(b"", ""), (b"\nunproved\n", "unproved: ")])
-def test_a_browser_shows_what_the_programs_give(zsched, bounds, tmp_path, end, mark):
-    subprocess.run(["strip", "-o", tmp_path / "bounds", bounds], check=True)
-    (tmp_path / "bounds").write_bytes((tmp_path / "bounds").read_bytes() + end)
-    with served(zsched, ZSCHED_BOUNDS=str(tmp_path / "bounds")) as (_, url):
+def test_a_browser_shows_what_the_programs_give(zsched, marked):
+    with served(zsched, ZSCHED_BOUNDS=marked[0]) as (_, url):
         document = opened(url)
-    assert re.search(f">{mark}for every input: 11 attempts, always", document)
+    assert re.search(f">{marked[1]}for every input: 11 attempts, always", document)
     for name, words in [("engine", "comes from zsched itself"), ("report", "end failed 503 at 13540 polls 22"),
                         ("state", "gives up with 503 after 11 attempts, 13.54 s; longest wait 2 s")]:
         assert words in inside(document, name)
