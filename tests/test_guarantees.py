@@ -11,7 +11,7 @@ from support import TOP
 guarantees = types.SimpleNamespace(**runpy.run_path(str(TOP / "build" / "guarantees")))
 
 PAGE = (TOP / "docs" / "GUARANTEES.md").read_text()
-PRINTED = guarantees.PAGE.read_text()
+PRINTED = (TOP / "docs" / "PROMISES.md").read_text()
 FILE = re.compile(r"[a-z][\w./-]*\.(?:py|rt|antt|c|md)")
 TEST = re.compile(r"(?!zs_)[a-z]\w*_\w+")
 # A test of a crate, or a row of one.
@@ -24,7 +24,7 @@ def quoted(text):
 
 
 def test_the_page_is_printed_from_the_sources():
-    assert PRINTED == guarantees.page(), "build/guarantees --write writes it"
+    assert PRINTED == guarantees.page(), "build/guarantees > docs/PROMISES.md writes it"
 
 
 @each_crate
