@@ -3,21 +3,14 @@ use Rattle.std.specs.Prelude.{◌≡◌, ℕ, ◌≤◌, Bool, true, false, List
 use Rattle.std.specs.Prelude.{Option, Some, None}
 use Rattle.zs_effect.specs.Attempts.{AttemptValue}
 use Rattle.zs_step.specs.declared.compiled.Compiled.{Compiled}
-use Rattle.zs_step.specs.declared.decision.Decision.{Decision}
-use Rattle.zs_step.specs.declared.decision.Decision.TheVariants.{Stop, Next}
-use Rattle.zs_step.specs.Answer.{Answer}
+use Rattle.zs_step.specs.Answer.{Answer, is_next}
 use Rattle.zs_step.specs.Compiled.{StandsFor, last_seen}
 use Rattle.zs_drive.specs.Clocks.{AreTicks}
 use Rattle.zs_drive.specs.Values.{JobRecord, AttemptedValue, EndedValue}
 use Rattle.zs_drive.specs.Timeline.{Timeline, timeline_of, poll_moments, beat_after}
 use Rattle.zs_drive.specs.DriverRules.{history_after}
 
--- whether the schedule continues
-abbrev pub is_next : Decision → Bool
-is_next Stop = false
-is_next (Next at) = true
-
--- the same for a step, if there was one
+-- whether the schedule continued at a step, if there was one
 abbrev pub step_continued : Option Answer → Bool
 step_continued None = false
 step_continued (Some step) = is_next step.decision

@@ -17,7 +17,7 @@ use Rattle.zs_run.specs.Refusals.{◌>>=◌, demand, demand_some, passed_on}
 use Rattle.zs_run.specs.Tree.{tree_of, all_of, is_one_of, has_only_keys}
 use Rattle.zs_run.specs.Shapes.{beat_of, entry_keys, job_keys, job_parts, document_keys, document_parts, ticks_asked}
 use Rattle.zs_run.specs.Jobs.{mode_of, is_name, script_of, job_of, jobs_of}
-use Rattle.zs_run.specs.Plan.{PlanRecord, is_cut, max_bytes, max_jobs, plan_of_tree, plan_of}
+use Rattle.zs_run.specs.Plan.{PlanRecord, is_cut, max_bytes, max_jobs, document_of, plan_of_tree, plan_of}
 use Rattle.zs_job_bounds.specs.Histories.{HasInputs}
 use Rattle.zs_job_bounds.proofs.Numbers.{There, DataFits, BeatFits, EntriesFit, JobsFit, read-fits, beats-fit, parts-fit, document-fits}
 
@@ -120,10 +120,10 @@ tree-fits d h =
 plan-fits : (bytes : List ℕ) → Accepted PlanFits (plan_of bytes)
 unfolding plan_of
 plan-fits bytes =
-    accepted-after PlanFits _
-    (λ x. accepted-next DataFits PlanFits plan_of_tree tree-fits (demand_some (tree_of bytes) faults.Json)
-    (accepted-some DataFits faults.Json (tree_of bytes) (read-fits bytes)))
-    (demand (nat_le (length bytes) max_bytes) faults.TooLong)
+    accepted-next DataFits PlanFits plan_of_tree tree-fits (document_of bytes)
+    (accepted-after DataFits _
+    (λ x. accepted-some DataFits faults.Json (tree_of bytes) (read-fits bytes))
+    (demand (nat_le (length bytes) max_bytes) faults.TooLong))
 
 -- ---- as the laws say it
 

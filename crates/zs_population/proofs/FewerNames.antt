@@ -1,5 +1,5 @@
 -- A line that is a job after some names is the same job after fewer names.
-use Rattle.std.proofs.Common.{◌≡◌, ◌&&◌, not, ℕ, List, ◌++◌, Bool, true, false, Some, Result, Ok, Err, refl, sym, ◌∙◌, length, nat_le}
+use Rattle.std.proofs.Common.{◌≡◌, ◌&&◌, not, ℕ, List, ◌++◌, Bool, true, false, Some, Result, Ok, Err, refl, sym, ◌∙◌}
 use Rattle.std.specs.Prelude.{⊤}
 use Rattle.std.specs.List.{list_all}
 use Rattle.std.specs.Str.{bytes_eq}
@@ -10,10 +10,10 @@ use Rattle.zs_run.specs.declared.plan_fault.PlanFault.{PlanFault}
 use Rattle.zs_run.specs.declared.plan_fault.PlanFault.TheVariants as faults
 use Rattle.zs_run.specs.Head.{job_of_bytes}
 use Rattle.zs_run.specs.Jobs.{is_name, job_of, mode_of}
-use Rattle.zs_run.specs.Plan.{max_bytes}
+use Rattle.zs_run.specs.Plan.{document_of}
 use Rattle.zs_run.specs.Refusals.{◌>>=◌, demand, demand_some}
 use Rattle.zs_run.specs.Shapes.{beat_of, entry_keys, job_keys, job_parts}
-use Rattle.zs_run.specs.Tree.{all_of, has_only_keys, is_one_of, tree_of}
+use Rattle.zs_run.specs.Tree.{all_of, has_only_keys, is_one_of}
 
 -- what comes next may be other checks that pass as well
 keeps : {A B : Type 0} (r : Result A PlanFault) (f g : A → Result B PlanFault) (b : B)
@@ -52,5 +52,5 @@ pub job-fewer : (number : ℕ) (front names : List (List ℕ)) (bytes : List ℕ
     → job_of_bytes number (front ++ names) bytes ≡ Ok job → job_of_bytes number names bytes ≡ Ok job
 unfolding job_of_bytes
 job-fewer number front names bytes job =
-    keeps (demand (nat_le (length bytes) max_bytes) faults.TooLong) _ _ job (λ short.
-    keeps (demand_some (tree_of bytes) faults.Json) (job_of number (front ++ names)) (job_of number names) job (λ d. tree-fewer number front names d job))
+    keeps (document_of bytes) (job_of number (front ++ names)) (job_of number names) job
+    (λ d. tree-fewer number front names d job)

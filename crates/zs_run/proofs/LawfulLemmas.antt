@@ -27,10 +27,10 @@ use Rattle.zs_pool.specs.Batches.{IsCut}
 use Rattle.zs_run.specs.declared.plan_fault.PlanFault.{PlanFault}
 use Rattle.zs_run.specs.declared.plan_fault.PlanFault.TheVariants as faults
 use Rattle.zs_run.specs.Refusals.{◌>>=◌, demand, demand_some, passed_on}
-use Rattle.zs_run.specs.Tree.{tree_of, all_of, is_one_of, has_only_keys}
+use Rattle.zs_run.specs.Tree.{all_of, is_one_of, has_only_keys}
 use Rattle.zs_run.specs.Shapes.{JobParts, DocumentParts, beat_of, entry_keys, job_keys, job_parts, document_keys, document_parts, ticks_asked}
 use Rattle.zs_run.specs.Jobs.{mode_of, is_name, script_of, job_of, jobs_of}
-use Rattle.zs_run.specs.Plan.{PlanRecord, is_cut, max_bytes, max_jobs, plan_of_tree, plan_of}
+use Rattle.zs_run.specs.Plan.{PlanRecord, is_cut, max_jobs, document_of, plan_of_tree, plan_of}
 use Rattle.zs_run.specs.Lawful.{IsLawfulJob, IsLawful}
 use Rattle.zs_run.proofs.ScriptLemmas.{script_given}
 
@@ -260,13 +260,8 @@ tree_is d plan h =
           names = lawful.2;
         })
 
-abbrev from_tree : List ℕ → ⊤ → Result PlanRecord PlanFault
-from_tree bytes x = demand_some (tree_of bytes) faults.Json >>= plan_of_tree
-
 -- an accepted plan is lawful
 pub plan_is_lawful : (bytes : List ℕ) (plan : PlanRecord) → plan_of bytes ≡ Ok plan → IsLawful plan
 unfolding plan_of
 plan_is_lawful bytes plan h =
-    let a = passed (demand (nat_le (length bytes) max_bytes) faults.TooLong) (from_tree bytes) plan h in
-    let b = passed (demand_some (tree_of bytes) faults.Json) plan_of_tree plan a.2 in
-    tree_is b.0 plan b.2
+    let a = passed (document_of bytes) plan_of_tree plan h in tree_is a.0 plan a.2

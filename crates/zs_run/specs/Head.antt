@@ -1,5 +1,5 @@
 -- The parts of a population's input: its document, which has no jobs, and the bytes of one job.
-use Rattle.std.specs.Prelude.{ℕ, ◌&&◌, List, [], ◌∷◌, length, nat_le, None, Result, Ok, codes}
+use Rattle.std.specs.Prelude.{ℕ, ◌&&◌, List, [], ◌∷◌, None, Result, Ok, codes}
 use Rattle.serde_json.specs.Data.{Data}
 use Rattle.serde_json.specs.Find.{get}
 use Rattle.zs_agenda.specs.Ticks.{Ticks}
@@ -8,10 +8,10 @@ use Rattle.zs_drive.specs.Values.{JobRecord}
 use Rattle.zs_run.specs.declared.plan_fault.PlanFault.{PlanFault}
 use Rattle.zs_run.specs.declared.plan_fault.PlanFault.TheVariants as faults
 use Rattle.zs_run.specs.Refusals.{◌>>=◌, demand, demand_some}
-use Rattle.zs_run.specs.Tree.{tree_of, has_only_keys}
+use Rattle.zs_run.specs.Tree.{has_only_keys}
 use Rattle.zs_run.specs.Shapes.{one_or_more, ticks_asked}
 use Rattle.zs_run.specs.Jobs.{job_of}
-use Rattle.zs_run.specs.Plan.{is_cut, max_bytes}
+use Rattle.zs_run.specs.Plan.{is_cut, document_of}
 
 -- how the jobs of a population run: a plan without its jobs
 pub record HeadRecord : Type 0 where
@@ -36,14 +36,8 @@ head_of_tree d = do
 
 -- the head that bytes are
 unfoldable pub head_of : List ℕ → Result HeadRecord PlanFault
-head_of bytes = do
-  _ ← demand (nat_le (length bytes) max_bytes) faults.TooLong
-  d ← demand_some (tree_of bytes) faults.Json
-  head_of_tree d
+head_of bytes = document_of bytes >>= head_of_tree
 
 -- the job that bytes are, with this number, after jobs of these names
 unfoldable pub job_of_bytes : ℕ → List (List ℕ) → List ℕ → Result JobRecord PlanFault
-job_of_bytes number names bytes = do
-  _ ← demand (nat_le (length bytes) max_bytes) faults.TooLong
-  d ← demand_some (tree_of bytes) faults.Json
-  job_of number names d
+job_of_bytes number names bytes = document_of bytes >>= job_of number names

@@ -46,9 +46,12 @@ plan_of_tree d = do
   jobs ← jobs_of 0 [] parts.jobs
   Ok (record { clock = clock; workers = parts.workers; grain = parts.grain; jobs = jobs })
 
+-- the document of bytes, if there are no more than a plan may have
+abbrev pub document_of : List ℕ → Result Data PlanFault
+document_of bytes = do
+  _ ← demand (nat_le (length bytes) max_bytes) faults.TooLong
+  demand_some (tree_of bytes) faults.Json
+
 -- the plan of bytes
 unfoldable pub plan_of : List ℕ → Result PlanRecord PlanFault
-plan_of bytes = do
-  _ ← demand (nat_le (length bytes) max_bytes) faults.TooLong
-  d ← demand_some (tree_of bytes) faults.Json
-  plan_of_tree d
+plan_of bytes = document_of bytes >>= plan_of_tree

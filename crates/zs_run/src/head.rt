@@ -9,7 +9,6 @@ ghost use Rattle.zs_run.specs.HeadView.{head_record, plan_with};
 
 use crate::plan::Plan;
 use crate::plan_fault::PlanFault;
-use crate::reading::MAX_BYTES;
 use crate::shapes::{AskedTicks, one_or_more};
 use crate::tree::{has_only_keys, read_tree};
 use serde_json::Value;
@@ -61,9 +60,6 @@ fn head_in(alloc: Global, document: &Value) -> Result<Head, PlanFault>
 pub fn read_head(alloc: Global, bytes: &[u8]) -> Result<Head, PlanFault>
     ensures head { Gives head_record result (head_of bytes.now) }
 {
-    if bytes.len() > MAX_BYTES {
-        return Err(PlanFault::TooLong);
-    }
     let document = read_tree(alloc, bytes)?;
     head_in(alloc, &document)
 }

@@ -16,7 +16,6 @@ ghost use Rattle.zs_run.specs.Jobs.{job_of, jobs_of, mode_of, script_of};
 use crate::entry::beats_of;
 use crate::names::is_name;
 use crate::plan_fault::PlanFault;
-use crate::reading::MAX_BYTES;
 use crate::tree::{has_only_keys, list, read_tree, text, whole_or};
 use serde_json::Value;
 use std::alloc::{AllocError, Global};
@@ -154,9 +153,6 @@ pub fn read_job(
     ensures job { (earlier : List (List ℕ)) → KnowsNames names.now earlier
         → Gives job_record result (job_of_bytes number earlier bytes.now) }
 {
-    if bytes.len() > MAX_BYTES {
-        return Err(PlanFault::TooLong);
-    }
     let value = read_tree(alloc, bytes)?;
     job_of(alloc, number, names, &value)
 }

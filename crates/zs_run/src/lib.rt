@@ -39,9 +39,10 @@ pub use laws::{
 pub use marked::Marked;
 pub use plan::Plan;
 pub use plan_fault::PlanFault;
-pub use reading::{MAX_BYTES, read_plan};
+pub use reading::read_plan;
 pub use reporting::{append_jobs, append_total, report};
 pub use run_fault::{RunFault, exit_code, status};
 pub use running::run;
 pub use streams::{Drain, Failed, Source};
 pub use transfer::write_all;
+pub use tree::MAX_BYTES;

@@ -15,9 +15,6 @@ use serde_json::Value;
 use std::alloc::Global;
 use zs_pool::{Cut, MAX_TASKS};
 
-/// The most bytes of a plan.
-pub const MAX_BYTES: usize = 16_777_216;
-
 // The most jobs of a plan: the number that a round may poll.
 const MAX_JOBS: usize = MAX_TASKS as usize;
 
@@ -49,9 +46,6 @@ pub fn read_plan(alloc: Global, bytes: &[u8]) -> Result<Plan, PlanFault>
     ensures plan { Gives plan_record result (plan_of bytes.now) }
     ensures few { IfOk result (λ plan. length plan.jobs.items ≤ max_jobs) }
 {
-    if bytes.len() > MAX_BYTES {
-        return Err(PlanFault::TooLong);
-    }
     let mut document = read_tree(alloc, bytes)?;
     plan_in(alloc, &mut document)
 }

@@ -8,11 +8,12 @@ ghost use Rattle.zs_run.specs.PlanReads.{Reads, reading};
 
 use crate::plan::Plan;
 use crate::plan_fault::PlanFault;
-use crate::reading::{MAX_BYTES, read_plan};
+use crate::reading::read_plan;
 use crate::reporting::report;
 use crate::run_fault::RunFault;
 use crate::streams::{Drain, Source};
 use crate::transfer::{InputFault, read_up_to, write_all};
+use crate::tree::MAX_BYTES;
 use std::alloc::Global;
 use std::sync::Wait;
 use std::thread::Threads;

@@ -5,19 +5,26 @@ ghost use Rattle.serde_json.specs.View.{view};
 ghost use Rattle.serde_json.specs.Find.{get};
 ghost use Rattle.std.specs.BTreeMap.{keys};
 ghost use Rattle.zs_run.specs.declared.plan_fault.PlanFault.TheVariants as faults;
-ghost use Rattle.zs_run.specs.Refusals.{Gives, demand_some};
-ghost use Rattle.zs_run.specs.Tree.{tree_of, as_list, find_whole, find_text, find_list, whole_or, is_one_of, has_only_keys};
+ghost use Rattle.zs_run.specs.Refusals.{Gives};
+ghost use Rattle.zs_run.specs.Plan.{document_of};
+ghost use Rattle.zs_run.specs.Tree.{as_list, find_whole, find_text, find_list, whole_or, is_one_of, has_only_keys};
 
 use crate::plan_fault::PlanFault;
 use serde_json::{Map, Value};
 use std::alloc::Global;
 use std::mem;
 
+/// The most bytes of a plan.
+pub const MAX_BYTES: usize = 16_777_216;
+
 /// The document that the bytes are.
 #[tactic(auto, using(crate::proofs::Trees::tree_of_text, crate::proofs::Trees::tree_of_none))]
 pub(crate) fn read_tree(alloc: Global, bytes: &[u8]) -> Result<Value, PlanFault>
-    ensures value { Gives view result (demand_some (tree_of bytes.now) faults.Json) }
+    ensures value { Gives view result (document_of bytes.now) }
 {
+    if bytes.len() > MAX_BYTES {
+        return Err(PlanFault::TooLong);
+    }
     match Value::from_slice(alloc, bytes) {
         Ok(value) => Ok(value),
         Err(error) if error.is_memory() => Err(PlanFault::Memory),

@@ -1,9 +1,13 @@
 -- Texts, spellings and outputs with known results, computed by the definitions.
-use Rattle.std.proofs.Common.{◌≡◌, refl, Ok, Err}
+use Rattle.std.proofs.Common.{◌≡◌, ℕ, List, [], ◌∷◌, map, Result, Ok, Err, refl}
 use Rattle.std.specs.Prelude.{codes}
 use Rattle.std.specs.Fmt.{digits}
 use Rattle.zs_term.specs.declared.term.Pick.TheVariants.{Whole}
 use Rattle.zs_term.specs.declared.term.Func.TheVariants.{First}
+use Rattle.zs_term.specs.Saturating.{max_moment}
+use Rattle.zs_term.specs.declared.term.Test.{Test}
+use Rattle.zs_term.specs.declared.term.Cmp.{Cmp}
+use Rattle.zs_term.specs.declared.fault.TermFault.{TermFault}
 use Rattle.zs_term.specs.declared.term.Cmp.TheVariants.{Lt, Eq, Ge}
 use Rattle.zs_term.specs.declared.fault.TermFault.TheVariants.{NoTerm, BadNumber, BadFactor, NoKind, BadWindow}
 use Rattle.zs_term.specs.Schedule.{Schedule, leaf, two, over, forever, recurs, spaced, exponential, identity, linear, windowed, both, either, while_output, mapped, reset_when, weight}
@@ -13,91 +17,55 @@ use Rattle.zs_term.specs.Canonical.{canonical_text, exponential_text, while_outp
 use Rattle.zs_term.specs.OutputText.{output_text}
 use Rattle.zs_term.specs.Verdict.{verdict_of}
 
--- ---- verdicts
+-- a test by a number
+abbrev test : Cmp → ℕ → Test
+test cmp n = record { cmp = cmp; than = n }
 
-empty_text : verdict_of (codes "") ≡ Err (NoTerm 0)
+-- texts, each with what it stands for
+abbrev verdicts : List (List ℕ × Result Schedule TermFault)
+verdicts =
+    (codes "", Err (NoTerm 0)) -- empty text
+    ∷ (codes "(recurs(1) && recurs(2)", Err (NoTerm 23)) -- unclosed
+    ∷ (codes "recurs(1) && recurs(2)", Err (NoTerm 10)) -- without parentheses
+    ∷ (codes "(recurs(1) && recurs(2) && recurs(3))", Err (NoTerm 24)) -- three parts
+    ∷ (codes "recurs(01)", Err (NoTerm 7)) -- padded number
+    ∷ (codes "recurs(18446744073709551616)", Err (BadNumber 7)) -- large number
+    ∷ (codes "recurs(18446744073709551615)", Ok (leaf (recurs max_moment))) -- greatest number
+    ∷ (codes "exponential(1, 0)", Err BadFactor) -- zero factor
+    ∷ (codes "recurs(1).map(_1)", Err NoKind) -- misfit
+    ∷ (codes "windowed(0)", Err BadWindow) -- zero window
+    ∷ (codes "windowed(0).map(_1)", Err NoKind) -- kind before window
+    ∷ (codes "(exponential(1, 0) && windowed(0))", Err BadFactor) -- factor before window
+    ∷ (codes "recurs(1).resetWhen(_1 = 0)", Err NoKind) -- reset misfit
+    -- spaces
+    ∷ (codes "( recurs(3)&&spaced( 5 ) ).map( _1 )",
+        Ok (over (two both (leaf (recurs 3)) (leaf (spaced 5))) (mapped First)))
+    ∷ (codes "exponential(10)", Ok (leaf (exponential 10 2))) -- doubling
+    -- reset
+    ∷ (codes "identity.resetWhen(>= 5)", Ok (over (leaf identity) (reset_when Whole (test Ge 5))))
+    ∷ []
+
+each_has_its_verdict : map (λ row. verdict_of row.0) verdicts ≡ map (λ row. row.1) verdicts
 unfolding lex
-empty_text = refl
+each_has_its_verdict = refl
 
-unclosed : verdict_of (codes "(recurs(1) && recurs(2)") ≡ Err (NoTerm 23)
-unfolding lex
-unclosed = refl
+-- schedules, each with its text
+abbrev spellings : List (Schedule × List ℕ)
+spellings =
+    -- spelled with spaces
+    (over (two both (leaf (recurs 3)) (leaf (spaced 5))) (mapped First),
+        codes "(recurs(3) && spaced(5)).map(_1)")
+    ∷ (leaf (exponential 10 2), codes "exponential(10, 2)") -- spelled with factor
+    -- spelled test
+    ∷ (over (leaf identity) (while_output Whole (test Lt 5)), codes "identity.whileOutput(< 5)")
+    -- spelled reset
+    ∷ (over (two either (leaf (linear 3)) (leaf (windowed 4))) (reset_when Whole (test Eq 0)),
+        codes "(linear(3) || windowed(4)).resetWhen(= 0)")
+    ∷ []
 
-without_parentheses : verdict_of (codes "recurs(1) && recurs(2)") ≡ Err (NoTerm 10)
-unfolding lex
-without_parentheses = refl
-
-three_parts : verdict_of (codes "(recurs(1) && recurs(2) && recurs(3))") ≡ Err (NoTerm 24)
-unfolding lex
-three_parts = refl
-
-padded_number : verdict_of (codes "recurs(01)") ≡ Err (NoTerm 7)
-unfolding lex
-padded_number = refl
-
-large_number : verdict_of (codes "recurs(18446744073709551616)") ≡ Err (BadNumber 7)
-unfolding lex
-large_number = refl
-
-greatest_number : verdict_of (codes "recurs(18446744073709551615)") ≡ Ok (leaf (recurs 18446744073709551615))
-unfolding lex
-greatest_number = refl
-
-zero_factor : verdict_of (codes "exponential(1, 0)") ≡ Err BadFactor
-unfolding lex
-zero_factor = refl
-
-misfit : verdict_of (codes "recurs(1).map(_1)") ≡ Err NoKind
-unfolding lex
-misfit = refl
-
-zero_window : verdict_of (codes "windowed(0)") ≡ Err BadWindow
-unfolding lex
-zero_window = refl
-
-kind_before_window : verdict_of (codes "windowed(0).map(_1)") ≡ Err NoKind
-unfolding lex
-kind_before_window = refl
-
-factor_before_window : verdict_of (codes "(exponential(1, 0) && windowed(0))") ≡ Err BadFactor
-unfolding lex
-factor_before_window = refl
-
-reset_misfit : verdict_of (codes "recurs(1).resetWhen(_1 = 0)") ≡ Err NoKind
-unfolding lex
-reset_misfit = refl
-
-spaces : verdict_of (codes "( recurs(3)&&spaced( 5 ) ).map( _1 )") ≡ Ok (over (two both (leaf (recurs 3)) (leaf (spaced 5))) (mapped First))
-unfolding lex
-spaces = refl
-
-doubling : verdict_of (codes "exponential(10)") ≡ Ok (leaf (exponential 10 2))
-unfolding lex
-doubling = refl
-
-reset : verdict_of (codes "identity.resetWhen(>= 5)") ≡ Ok (over (leaf identity) (reset_when Whole (record { cmp = Ge; than = 5 })))
-unfolding lex
-reset = refl
-
--- ---- canonical spellings
-
-spelled_with_spaces : canonical_text (over (two both (leaf (recurs 3)) (leaf (spaced 5))) (mapped First)) ≡ codes "(recurs(3) && spaced(5)).map(_1)"
-unfolding digits
-spelled_with_spaces = refl
-
-spelled_with_factor : canonical_text (leaf (exponential 10 2)) ≡ codes "exponential(10, 2)"
-unfolding exponential_text digits
-spelled_with_factor = refl
-
-spelled_test : canonical_text (over (leaf identity) (while_output Whole (record { cmp = Lt; than = 5 }))) ≡ codes "identity.whileOutput(< 5)"
-unfolding while_output_text digits
-spelled_test = refl
-
-spelled_reset : canonical_text (over (two either (leaf (linear 3)) (leaf (windowed 4))) (reset_when Whole (record { cmp = Eq; than = 0 }))) ≡ codes "(linear(3) || windowed(4)).resetWhen(= 0)"
-unfolding reset_when_text digits
-spelled_reset = refl
-
--- ---- outputs
+each_is_spelled_so : map (λ row. canonical_text row.0) spellings ≡ map (λ row. row.1) spellings
+unfolding exponential_text while_output_text reset_when_text digits
+each_is_spelled_so = refl
 
 a_pair_of_a_side_and_a_list : output_text (pair (left (number 1)) (listed (more (number 2) (more (number 3) none)))) ≡ codes "(Left(1),[2,3])"
 unfolding digits
@@ -105,8 +73,6 @@ a_pair_of_a_side_and_a_list = refl
 
 the_empty_list : output_text (listed none) ≡ codes "[]"
 the_empty_list = refl
-
--- ---- sizes
 
 -- a schedule that starts over at 0
 abbrev again : Schedule → Schedule
