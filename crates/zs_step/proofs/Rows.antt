@@ -85,20 +85,20 @@ nested_reset =
     over (two both (over (leaf (recurs 9)) (reset_when Whole (eq 2))) (leaf elapsed))
     (reset_when SecondPart (ge 5))
 
--- schedules, each with a history and the answers to it
+-- schedules, each with a history and the results of its steps
 abbrev answered : List (Schedule × (List (ℕ × ℕ) × List Answer))
 answered =
     (leaf forever, (three, num 0 5 ∷ num 1 5 ∷ num 2 9 ∷ [])) -- forever counts
     -- recurs allows its number of runs
     ∷ (leaf (recurs 2), (three, num 0 5 ∷ num 1 5 ∷ answer (number 2) Stop ∷ []))
-    ∷ (leaf identity, (three, num 0 5 ∷ num 1 5 ∷ num 0 9 ∷ [])) -- identity answers the input
+    ∷ (leaf identity, (three, num 0 5 ∷ num 1 5 ∷ num 0 9 ∷ [])) -- identity returns the input
     ∷ (leaf elapsed, (three, num 0 5 ∷ num 0 5 ∷ num 4 9 ∷ [])) -- elapsed at equal moments
     ∷ (leaf (fibonacci 10), (three, num 10 15 ∷ num 10 15 ∷ num 20 29 ∷ [])) -- fibonacci delays
     ∷ (leaf (fixed 0), (three, num 0 5 ∷ num 1 5 ∷ num 2 9 ∷ [])) -- fixed with no period
     -- spaced up to the last moment
     ∷ (leaf (spaced max_moment),
         (three, num 0 max_moment ∷ num 1 max_moment ∷ num 2 max_moment ∷ []))
-    -- fixed running behind
+    -- fixed running late
     ∷ (leaf (fixed 100),
         ((50, 1) ∷ (400, 1) ∷ (410, 1) ∷ (460, 1) ∷ [],
         num 0 150 ∷ num 1 400 ∷ num 2 450 ∷ num 3 550 ∷ []))
@@ -174,13 +174,13 @@ answered =
     -- either side is merged
     ∷ (over (two and_then (leaf (recurs 1)) (leaf (linear 7))) (mapped Merge),
         (two_steps, num 0 1 ∷ num 7 9 ∷ []))
-    -- a reset answers anew
+    -- a reset begins anew
     ∷ (over (leaf (recurs 5)) (reset_when Whole (eq 2)),
         (four_zeros, num 0 1 ∷ num 1 2 ∷ num 0 3 ∷ num 1 4 ∷ []))
     -- a reset forgets the first moment
     ∷ (over (leaf elapsed) (reset_when Whole (ge 5)),
         (three_apart, num 0 0 ∷ num 3 3 ∷ num 0 6 ∷ num 2 8 ∷ []))
-    -- the new answer is not tested
+    -- the new result is not tested
     ∷ (over (leaf forever) (reset_when Whole (eq 0)), (two_steps, num 0 1 ∷ num 1 2 ∷ []))
     -- a reset inside another
     ∷ (nested_reset,
@@ -217,11 +217,11 @@ visited =
     ∷ (two and_then (leaf (recurs 2)) (leaf (recurs 1)), (four_fives, 2 ∷ 2 ∷ 3 ∷ 2 ∷ []))
     -- the done step is not collected
     ∷ (collected_schedule, ((1, 1) ∷ (2, 2) ∷ (3, 3) ∷ [], 3 ∷ 3 ∷ 3 ∷ []))
-    -- a reset answers anew
+    -- a reset begins anew
     ∷ (over (leaf (recurs 5)) (reset_when Whole (eq 2)), (four_zeros, 2 ∷ 2 ∷ 3 ∷ 2 ∷ []))
     -- a reset forgets the first moment
     ∷ (over (leaf elapsed) (reset_when Whole (ge 5)), (three_apart, 2 ∷ 2 ∷ 3 ∷ 2 ∷ []))
-    -- the new answer is not tested
+    -- the new result is not tested
     ∷ (over (leaf forever) (reset_when Whole (eq 0)), (two_steps, 3 ∷ 2 ∷ []))
     ∷ (nested_reset, (five, 5 ∷ 5 ∷ 6 ∷ 9 ∷ 5 ∷ [])) -- a reset inside another
     ∷ []

@@ -21,7 +21,7 @@ use Rattle.zs_term.specs.Verdict.{verdict_of}
 abbrev test : Cmp → ℕ → Test
 test cmp n = record { cmp = cmp; than = n }
 
--- texts, each with what it stands for
+-- texts, each with its schedule or its fault
 abbrev verdicts : List (List ℕ × Result Schedule TermFault)
 verdicts =
     (codes "", Err (NoTerm 0)) -- empty text
