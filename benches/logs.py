@@ -13,7 +13,6 @@ import os
 import pathlib
 import random
 import sys
-import tempfile
 
 HERE = pathlib.Path(__file__).resolve().parent
 TOP = HERE.parent
@@ -75,14 +74,7 @@ def main(words):
     arguments.add_argument("--mb", type=plans.at_least_one, default=100, help="the size of the log (100)")
     arguments.add_argument("--folder", help="the folder for the files of the run (the one for temporary files)")
     chosen = arguments.parse_args(words)
-    try:
-        with tempfile.TemporaryDirectory(prefix="zsched-logs-", dir=chosen.folder) as folder:
-            for row in table(pathlib.Path(folder), chosen.mb * 1_000_000):
-                print(row, flush=True)
-    except (measure.Failed, OSError) as failed:
-        print(f"logs.py: {failed}", file=sys.stderr)
-        return 1
-    return 0
+    return measure.print_table("logs", chosen.folder, lambda folder: table(folder, chosen.mb * 1_000_000))
 
 
 if __name__ == "__main__":

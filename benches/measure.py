@@ -1,4 +1,4 @@
-"""One run of a program: its time, memory and instructions.
+"""Runs of a program: their time, memory and instructions, and tables of them.
 
 wait4 returns the peak memory as `ru_maxrss`, which is at least that of the process that started the program. So a small
 shell starts the program and exits at once, and the program becomes a child of this process. The measured peak is then
@@ -6,9 +6,11 @@ at least 1 MB, not the size of Python. The program waits for a line on a pipe un
 begins at that line."""
 import ctypes
 import os
+import pathlib
 import re
 import shutil
 import subprocess
+import sys
 import tempfile
 import time
 from typing import NamedTuple
@@ -81,6 +83,18 @@ def shot(program, plan, folder, seconds=600):
     status = run(program, plan, output, errors, seconds).status
     with open(output, "rb") as out, open(errors, "rb") as err:
         return Shot(status, out.read(), err.read())
+
+
+def print_table(name, parent, table):
+    """Prints the rows that `table` makes in a temporary folder below `parent` as they come: the exit status."""
+    try:
+        with tempfile.TemporaryDirectory(prefix=f"zsched-{name}-", dir=parent) as folder:
+            for row in table(pathlib.Path(folder)):
+                print(row, flush=True)
+    except (Failed, OSError) as failed:
+        print(f"{name}.py: {failed}", file=sys.stderr)
+        return 1
+    return 0
 
 
 def instructions_by_perf(program, plan):

@@ -18,7 +18,6 @@ import pathlib
 import re
 import subprocess
 import sys
-import tempfile
 import time
 
 HERE = pathlib.Path(__file__).resolve().parent
@@ -126,14 +125,8 @@ def main(words):
         arguments.error(str(missing))
     if found is None:
         arguments.error("zsched-population is neither built nor installed")
-    try:
-        with tempfile.TemporaryDirectory(prefix="zsched-population-", dir=chosen.folder) as folder:
-            for row in table(found, pathlib.Path(folder), chosen.jobs, chosen.range):
-                print(row, flush=True)
-    except (measure.Failed, OSError) as failed:
-        print(f"population.py: {failed}", file=sys.stderr)
-        return 1
-    return 0
+    return measure.print_table("population", chosen.folder,
+                               lambda folder: table(found, folder, chosen.jobs, chosen.range))
 
 
 if __name__ == "__main__":
