@@ -1,9 +1,9 @@
 #!/usr/bin/env python3
 """Plants each body that a test has to catch, in one copy of the crates, and sees that the test does.
 
-CONTRIBUTING.md has the form of a survivor. In a file it changes the body of one function; pairs that begin before a
-file's first function add a field, which all survivors get. A number picks a body at run time. What catches it has to
-pass without it. The last line is 'N passed, M failed'."""
+CONTRIBUTING.md has the form of a survivor. The pairs after a `file:` change the body of one function; those that begin
+before the file's first function add a field, which all survivors get. A number picks a body at run time. What catches
+it has to pass without it. The last line is 'N passed, M failed'."""
 import concurrent.futures
 import os
 import pathlib
@@ -26,14 +26,16 @@ CHOSEN = 'unsafe extern "C" {\n    pub(crate) safe fn zs_chosen() -> u64;\n}\n'
 
 
 def survivor(number, path):
-    """A body: its number, name and crate, what catches it, and its pairs of old and new texts by file."""
-    pairs, said = {}, {}
+    """A body: its number, name and crate, what catches it, and the pairs of old and new texts after each `file:`."""
+    pairs, said = [], {}
     for line in path.read_text(encoding="utf-8").splitlines():
         word, _, text = line.partition(":")
         assert word in ["caught-by", "refused-by", "file", "old", "new"], f"{path}: {line}"
         said[word] = text.removeprefix(" ")
-        if word == "new":
-            pairs.setdefault(said["file"], []).append((said["old"], said["new"]))
+        if word == "file":
+            pairs.append((said["file"], []))
+        elif word == "new":
+            pairs[-1][1].append((said["old"], said["new"]))
     return types.SimpleNamespace(number=number, name=path.stem, crate=path.parent.parent.name, pairs=pairs,
                                  caught_by=said["caught-by"])
 
@@ -49,7 +51,8 @@ def replaced(path, pairs):
 
 def add_fields(crates, survivors):
     """Adds the fields that survivors need, each once. Returns the changes of bodies that remain."""
-    changes = [(it, crates / it.crate / file, tuple(pairs)) for it in survivors for file, pairs in it.pairs.items()]
+    changes = [(it, crates / it.crate / file, tuple(pairs)) for it in survivors for file, pairs in it.pairs
+               if file.startswith("src/")]
     fields = {(path, pairs) for _, path, pairs in changes
               if not FUNCTION.search(text := path.read_text(encoding="utf-8"), 0, text.index(pairs[0][0]))}
     for path, pairs in fields:
