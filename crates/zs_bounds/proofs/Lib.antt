@@ -6,7 +6,11 @@ pub mod LeafRanges
 pub mod Answering
 pub mod Covers
 pub mod Steps
+pub mod LatestSteps
+pub mod WaitLimits
 pub mod Promising
+pub mod SmallMoments
+pub mod ScheduleWaits
 pub mod Rows
 pub mod Powers
 pub mod Loops

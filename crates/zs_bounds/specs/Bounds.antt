@@ -1,44 +1,59 @@
 -- What bounds promise: facts about every history that a driver can make with a schedule. No loop
 -- and no interval is named here.
-use Rattle.std.specs.Prelude.{◌≡◌, ℕ, ◌+◌, ◌-◌, ◌<◌, ◌≤◌, true, Some, [], ◌∷◌, length}
+use Rattle.std.specs.Prelude.{◌≡◌, ℕ, ◌+◌, ◌-◌, ◌<◌, ◌≤◌, true, Some, List, [], ◌∷◌, length}
+use Rattle.std.specs.List.{sum}
 use Rattle.zs_term.specs.Schedule.{Schedule}
 use Rattle.zs_step.specs.declared.decision.Decision.{Decision}
 use Rattle.zs_step.specs.declared.decision.Decision.TheVariants.{Stop, Next}
 use Rattle.zs_step.specs.History.{History, first_moment, last_moment}
 use Rattle.zs_step.specs.Answer.{answer_of, is_next}
-use Rattle.zs_bounds.specs.declared.durations.Durations.{Durations}
+use Rattle.zs_bounds.specs.declared.driver.Driver.{Driver}
 use Rattle.zs_bounds.specs.declared.told.Bounds.{Bounds}
-use Rattle.zs_bounds.specs.Driven.{IsAttempt, LetsEndAt, IsDriven}
+use Rattle.zs_bounds.specs.Driven.{IsAttempt, WaitsFor, LetsEndAt, IsDriven}
 
 -- how long a decision at a moment waits: not at all if it is to stop
 abbrev pub wait_of : ℕ → Decision → ℕ
 wait_of m Stop = 0
 wait_of m (Next x) = x - m
 
--- the wait after the last step of a history
+-- the schedule's wait after the last step of a history
 abbrev pub last_wait : Schedule → History → ℕ
 last_wait s h = wait_of (last_moment h) (answer_of s h).decision
 
--- the waits after all steps of a history, the last one too
+-- its waits after all steps of a history, the last one too
 abbrev pub total_wait : Schedule → History → ℕ
 total_wait s [] = 0
 total_wait s (p ∷ h) = last_wait s (p ∷ h) + total_wait s h
 
+-- an attempt after the last step of a history and its wait ends at a moment, if there is a step
+abbrev pub EndsAfter : Driver → History → List ℕ → ℕ → Type 0
+EndsAfter d [] [] m = Unit {0}
+EndsAfter d [] (u ∷ us) m = ⊥
+EndsAfter d (p ∷ h) [] m = ⊥
+EndsAfter d (p ∷ h) (u ∷ us) m = IsAttempt d (p.0 + u) m
+
+-- the waits of a driver after the steps of a history, the last one too, the newest first
+abbrev pub HasWaits : Schedule → Driver → History → List ℕ → Type 0
+HasWaits s d [] [] = Unit {0}
+HasWaits s d [] (u ∷ us) = ⊥
+HasWaits s d (p ∷ h) [] = ⊥
+HasWaits s d (p ∷ h) (u ∷ us) =
+    WaitsFor d.waits p.0 (answer_of s (p ∷ h)).decision u × EndsAfter d h us p.0 × HasWaits s d h us
+
 -- After a history, an attempt begins and ends at m: the first one, which begins at `begun`, or one
 -- that the last step lets begin.
-abbrev pub NextEndsAt : Schedule → Durations → ℕ → History → ℕ → Type 0
+abbrev pub NextEndsAt : Schedule → Driver → ℕ → History → ℕ → Type 0
 NextEndsAt s d begun [] m = IsAttempt d begun m
 NextEndsAt s d begun (p ∷ h) m =
     IsDriven s d (p ∷ h) × IsAttempt d begun (first_moment (p ∷ h))
-    × LetsEndAt d (answer_of s (p ∷ h)).decision m
+    × LetsEndAt d p.0 (answer_of s (p ∷ h)).decision m
 
 -- A schedule never gives up: it goes on after each step of every history.
 abbrev pub NeverGivesUp : Schedule → Type 0
 NeverGivesUp s = (p : ℕ × ℕ) (h : History) → is_next (answer_of s (p ∷ h)).decision ≡ true
 
--- What is promised of every history that a driver can make with a schedule, by the durations of
--- attempts.
-pub record Promises (s : Schedule) (d : Durations) (b : Bounds) : Type 0 where
+-- What is promised of every history that a driver can make with a schedule.
+pub record Promises (s : Schedule) (d : Driver) (b : Bounds) : Type 0 where
   -- with a most, no history has more steps, and at that step the schedule is done
   pub most : (k : ℕ) → b.most ≡ Some k → (h : History) → IsDriven s d h → length h ≤ k
   pub done : (k : ℕ) → b.most ≡ Some k → (h : History) → IsDriven s d h → length h ≡ k
@@ -46,10 +61,12 @@ pub record Promises (s : Schedule) (d : Durations) (b : Bounds) : Type 0 where
   -- before the least step the schedule goes on
   pub least : (h : History) → IsDriven s d h → length h < b.least
       → is_next (answer_of s h).decision ≡ true
-  -- no wait after a step that was looked at is longer
-  pub longest : (h : History) → IsDriven s d h → length h ≤ b.seen → last_wait s h ≤ b.longest
-  -- with a total, all waits of a history are no longer in all
-  pub total : (t : ℕ) → b.total ≡ Some t → (h : History) → IsDriven s d h → total_wait s h ≤ t
+  -- no wait of a driver after a step that was looked at is longer
+  pub longest : (h : History) → IsDriven s d h → length h ≤ b.seen → (u : ℕ)
+      → WaitsFor d.waits (last_moment h) (answer_of s h).decision u → u ≤ b.longest
+  -- with a total, all waits of a driver are no longer in all
+  pub total : (t : ℕ) → b.total ≡ Some t → (h : History) → IsDriven s d h → (us : List ℕ)
+      → HasWaits s d h us → sum us ≤ t
   -- with a longest run, the last attempt ends at most that long after the begin of the first one
   pub run : (r : ℕ) → b.longest_run ≡ Some r → (h : History) → IsDriven s d h
       → (begun : ℕ) → IsAttempt d begun (first_moment h) → last_moment h ≤ begun + r
@@ -58,3 +75,10 @@ pub record Promises (s : Schedule) (d : Durations) (b : Bounds) : Type 0 where
       → NextEndsAt s d begun h m → m ≤ begun + r
   -- with a most, every step was looked at
   pub whole : (k : ℕ) → b.most ≡ Some k → b.seen ≡ k
+
+-- What bounds say of the schedule's waits, if a driver is never early.
+pub record BoundsWaits (s : Schedule) (d : Driver) (b : Bounds) : Type 0 where
+  -- no wait of the schedule after a step that was looked at is longer
+  pub longest : (h : History) → IsDriven s d h → length h ≤ b.seen → last_wait s h ≤ b.longest
+  -- with a total, all its waits are no longer in all
+  pub total : (t : ℕ) → b.total ≡ Some t → (h : History) → IsDriven s d h → total_wait s h ≤ t

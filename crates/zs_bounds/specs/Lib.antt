@@ -7,6 +7,7 @@ pub mod DecisionRange
 pub mod OutputRange
 pub mod AnswerRange
 pub mod StateRange
+pub mod LatestStep
 pub mod BoundsOf
 -- What the bodies store: private contracts alone name these.
 pub mod OutRange
@@ -14,4 +15,5 @@ pub mod Leaf
 pub mod Node
 pub mod Steps
 pub mod Reads
+pub mod Place
 pub mod Sizes

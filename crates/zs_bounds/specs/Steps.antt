@@ -3,7 +3,7 @@
 use Rattle.std.specs.Prelude.{◌≡◌, ℕ, Bool, ◌&&◌, ◌||◌}
 use Rattle.zs_term.specs.Schedule.{Modifier, over, collect_all}
 use Rattle.zs_bounds.specs.declared.decisions.Decisions.{Decisions}
-use Rattle.zs_bounds.specs.declared.durations.Durations.{Durations}
+use Rattle.zs_bounds.specs.declared.driver.Driver.{Driver}
 use Rattle.zs_bounds.specs.declared.told.Bounds.{Bounds}
 use Rattle.zs_bounds.specs.declared.node.Node.{Node}
 use Rattle.zs_bounds.specs.declared.ranges.OutRange.{OutRange}
@@ -25,7 +25,7 @@ use Rattle.zs_bounds.specs.Reads.{Shows, range_if, left_range_in, right_range_in
 -- ---- all steps
 
 -- the bounds of a node that has been stepped once, by what that step may decide
-abbrev pub bounds_at : Node → Durations → ℕ → Decisions → Bounds
+abbrev pub bounds_at : Node → Driver → ℕ → Decisions → Bounds
 bounds_at n d steps first =
     bounds_from (node_schedule n) d steps (node_state n) first 0 (no_bounds d)
 

@@ -17,7 +17,7 @@ pub fn never_gives_up(checked: &Checked) -> bool
 }
 
 // Whether the form of a term shows that it never stops.
-fn never_stops(term: &Term) -> bool
+pub(crate) fn never_stops(term: &Term) -> bool
     ensures value { result ≡ never_stops (schedule_of term.now) }
 {
     match term {

@@ -1,14 +1,37 @@
-//! The law that bounds hold.
+//! The laws that bounds hold.
 
-ghost use Rattle.std.specs.Prelude.{◌≡◌, ℕ, true};
+ghost use Rattle.std.specs.Prelude.{◌≡◌, ◌≤◌, ℕ, Some, true};
 ghost use Rattle.zs_term.specs.Schedule.{Schedule, has_factors};
-ghost use Rattle.zs_bounds.specs.declared.durations.Durations.{Durations};
-ghost use Rattle.zs_bounds.specs.Bounds.{Promises};
-ghost use Rattle.zs_bounds.specs.BoundsOf.{bounds_of};
+ghost use Rattle.zs_term.specs.Saturating.{max_moment};
+ghost use Rattle.zs_step.specs.declared.decision.Decision.{Decision};
+ghost use Rattle.zs_step.specs.declared.decision.Decision.TheVariants.{Next};
+ghost use Rattle.zs_step.specs.Answer.{answer_of};
+ghost use Rattle.zs_step.specs.History.{History, last_moment};
+ghost use Rattle.zs_bounds.specs.declared.driver.Driver.{Driver};
+ghost use Rattle.zs_bounds.specs.declared.told.Bounds.{Bounds};
+ghost use Rattle.zs_bounds.specs.Driven.{exact_waits, max_tick, IsAttempt, IsNeverEarly, WaitsFor, LetsEndAt};
+ghost use Rattle.zs_bounds.specs.Bounds.{wait_of, Promises, BoundsWaits};
+ghost use Rattle.zs_bounds.specs.BoundsOf.{bounds_of, real_waits};
+ghost use Rattle.zs_bounds.specs.Span.{span};
 
 /// The computed bounds of a schedule, whose factors are at least 1, hold for every history that a
 /// driver can make.
 pub fn bounds_hold()
-    ensures value { (s : Schedule) (d : Durations) (steps : ℕ) → has_factors s ≡ true
+    ensures value { (s : Schedule) (d : Driver) (steps : ℕ) → has_factors s ≡ true
         → Promises s d (bounds_of s d steps) }
+{}
+
+/// Bounds hold for the schedule's own waits too, if the driver is never early.
+pub fn bounds_hold_for_schedule_waits()
+    // With exact waits the driver's waits are the schedule's, and so are those that are computed.
+    ensures exact { IsNeverEarly exact_waits }
+    ensures only { (m u : ℕ) (d : Decision) → WaitsFor exact_waits m d u → u ≡ wait_of m d }
+    ensures same { (low high : ℕ) → low ≤ max_moment → high ≤ max_moment
+        → real_waits exact_waits (Some (span low high)) ≡ Some (span low high) }
+    ensures value { (s : Schedule) (d : Driver) (b : Bounds) → IsNeverEarly d.waits
+        → Promises s d b → BoundsWaits s d b }
+    // Such a driver may begin an attempt when the schedule says.
+    ensures begins { (s : Schedule) (d : Driver) (h : History) (x m : ℕ) → IsNeverEarly d.waits
+        → last_moment h ≤ max_tick → (answer_of s h).decision ≡ Next x → IsAttempt d x m
+        → LetsEndAt d (last_moment h) (answer_of s h).decision m }
 {}

@@ -2,13 +2,13 @@
 //! it waits, and how long the attempts and the waits take together.
 //!
 //! `bounds` steps a state with intervals in place of numbers. What it returns holds for every input
-//! and the given durations of attempts.
+//! and everything that a `Driver` may do.
 //! Start with `specs/Driven.antt` and `specs/Bounds.antt`, which say what is promised.
 //!
 //! ```rust
 //! let schedule = zs_term::read(alloc, "(exponential(100) && recurs(5))")?;
-//! let attempts = Durations { least: 1, most: Some(5000) };
-//! let told = bounds(alloc, &schedule, attempts, 1000)?;
+//! let driver = Driver { least: 1, most: Some(5000), waits: Waits::exact() };
+//! let told = bounds(alloc, &schedule, driver, 1000)?;
 //! assert_eq!(rt; told.most, Some(6));
 //! assert_eq!(rt; told.longest_run, Some(33_100));
 //! ```
@@ -16,9 +16,10 @@
 
 mod bounding;
 mod decisions;
-mod durations;
+mod driver;
 mod endless;
 mod joins;
+mod latest;
 mod laws;
 mod leaves;
 mod node;
@@ -29,9 +30,11 @@ mod span;
 mod stepping;
 mod told;
 mod turns;
+mod waits;
 
 pub use bounding::bounds;
-pub use durations::Durations;
+pub use driver::Driver;
 pub use endless::never_gives_up;
-pub use laws::bounds_hold;
+pub use laws::{bounds_hold, bounds_hold_for_schedule_waits};
 pub use told::Bounds;
+pub use waits::Waits;

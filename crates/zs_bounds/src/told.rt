@@ -1,10 +1,10 @@
 //! What is known of a schedule for every history that a driver can make.
 
 ghost use Rattle.std.specs.Prelude.{◌≡◌, ◌+◌, ◌<◌, ◌^◌};
-ghost use Rattle.zs_bounds.specs.BoundsOf.{no_bounds, with_step, ended, unended, sum_within, longer_run};
+ghost use Rattle.zs_bounds.specs.BoundsOf.{no_bounds, with_step, ended, unended, sum_within, longer_run, longer_total, at_most, real_limit, total_limit, whole_run};
 
 use crate::decisions::Decisions;
-use crate::durations::Durations;
+use crate::driver::Driver;
 use crate::span::Span;
 
 /// What holds for every history that a driver can make with a schedule.
@@ -28,8 +28,8 @@ pub struct Bounds {
 
 impl Bounds {
     // Before the first step, which is the end of the first attempt.
-    pub(crate) fn nothing(durations: Durations) -> Bounds
-        ensures value { result ≡ no_bounds durations }
+    pub(crate) fn nothing(driver: Driver) -> Bounds
+        ensures value { result ≡ no_bounds driver }
     {
         Bounds {
             seen: 0,
@@ -37,16 +37,18 @@ impl Bounds {
             most: None,
             longest: 0,
             total: Some(0),
-            longest_run: durations.most,
+            longest_run: driver.most,
         }
     }
 
     // One more step, with what it may decide.
-    pub(crate) fn with_step(self, durations: Durations, decision: Decisions) -> Bounds
+    // `limit` is one of the time from the first step up to a step that goes on, if there is one.
+    pub(crate) fn with_step(self, limit: Option<u64>, driver: Driver, decision: Decisions) -> Bounds
         requires within { self.seen + 1 < 2 ^ 64 }
-        ensures value { result ≡ with_step durations decision self }
+        ensures value { result ≡ with_step limit driver decision self }
     {
         let wait = decision.waits.map_or(0, |span| span.high);
+        let before = driver.waits_limit(limit, self.seen);
         let goes_on = self.seen < self.least && !decision.stops;
         Bounds {
             seen: self.seen + 1,
@@ -57,8 +59,8 @@ impl Bounds {
             },
             most: None,
             longest: self.longest.max(wait),
-            total: sum_within(self.total, wait),
-            longest_run: longer_run(durations.most, decision.waits, self.longest_run),
+            total: longer_total(before, wait, self.total),
+            longest_run: longer_run(limit, driver.most, decision.waits, self.longest_run),
         }
     }
 
@@ -73,13 +75,16 @@ impl Bounds {
     }
 
     // There may be more steps than were seen.
-    pub(crate) fn without_end(self) -> Bounds
-        ensures value { result ≡ unended self }
+    // `limit` is one of the time from the first step up to a step that goes on, and `wait` one of
+    // every wait of the schedule, if there are any.
+    pub(crate) fn without_end(self, limit: Option<u64>, wait: Option<u64>, driver: Driver) -> Bounds
+        ensures value { result ≡ unended limit wait driver self }
     {
+        let total = total_limit(limit, real_limit(driver, wait));
         Bounds {
             most: None,
-            total: None,
-            longest_run: None,
+            total,
+            longest_run: whole_run(driver.most, total),
             ..self
         }
     }
@@ -92,12 +97,62 @@ fn sum_within(total: Option<u64>, wait: u64) -> Option<u64>
     total?.checked_add(wait)
 }
 
-// The longest run with one more wait and attempt, if a step may go on.
-fn longer_run(most: Option<u64>, waits: Option<Span>, run: Option<u64>) -> Option<u64>
-    ensures value { result ≡ longer_run most waits run }
+// A number, or a limit if that is smaller.
+fn at_most(limit: Option<u64>, number: u64) -> u64
+    ensures value { result ≡ at_most limit number }
 {
-    match waits {
-        None => run,
-        Some(wait) => sum_within(sum_within(run, wait.high), most?),
+    limit.map_or(number, |most| number.min(most))
+}
+
+// The longest of all waits with one more. `limit` is one of the waits before it.
+fn longer_total(limit: Option<u64>, wait: u64, total: Option<u64>) -> Option<u64>
+    ensures value { result ≡ longer_total limit wait total }
+{
+    let before = total?;
+    Some(before.max(at_most(limit, before).checked_add(wait)?))
+}
+
+// The longest run with one more wait and attempt, if a step may go on. `limit` is one of the time
+// from the first step up to that step.
+fn longer_run(
+    limit: Option<u64>,
+    most: Option<u64>,
+    waits: Option<Span>,
+    run: Option<u64>,
+) -> Option<u64>
+    ensures value { result ≡ longer_run limit most waits run }
+{
+    let Some(wait) = waits else {
+        return run;
+    };
+    let (longest, before) = (most?, run?);
+    let begins = limit.map(|time| time.saturating_add(longest));
+    let waited = sum_within(Some(at_most(begins, before)), wait.high);
+    Some(before.max(sum_within(waited, longest)?))
+}
+
+// A limit of a driver's waits, by one of the schedule's.
+fn real_limit(driver: Driver, wait: Option<u64>) -> Option<u64>
+    ensures value { result ≡ real_limit driver wait }
+{
+    match wait {
+        None => None,
+        Some(longest) => Some(driver.waits.longest(longest)),
     }
+}
+
+// All waits, by a limit of the time up to a step that goes on and one of each wait.
+fn total_limit(limit: Option<u64>, wait: Option<u64>) -> Option<u64>
+    ensures value { result ≡ total_limit limit wait }
+{
+    let time = limit?;
+    sum_within(Some(time), wait?)
+}
+
+// The longest run, by these and the longest attempt.
+fn whole_run(most: Option<u64>, total: Option<u64>) -> Option<u64>
+    ensures value { result ≡ whole_run most total }
+{
+    let longest = most?;
+    sum_within(sum_within(total, longest), longest)
 }

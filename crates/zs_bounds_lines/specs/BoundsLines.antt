@@ -5,7 +5,7 @@ use Rattle.std.specs.Fmt.{decimal}
 use Rattle.zs_term.specs.Schedule.{Schedule}
 use Rattle.zs_term.specs.Canonical.{canonical_text}
 use Rattle.zs_bounds.specs.BoundsOf.{bounds_of, never_stops}
-use Rattle.zs_bounds.specs.declared.durations.Durations.{Durations}
+use Rattle.zs_bounds.specs.declared.driver.Driver.{Driver}
 use Rattle.zs_bounds.specs.declared.told.Bounds.{Bounds}
 use Rattle.zs_bounds_lines.specs.Policies.{policy_of}
 use Rattle.zs_bounds_lines.specs.declared.fault.PolicyFault.{PolicyFault}
@@ -36,7 +36,7 @@ abbrev pub steps_text : Bounds → List ℕ
 steps_text b = codes ",\"steps_seen\":" ++ decimal b.seen ++ codes "}\n"
 
 -- the line of a policy with these durations of attempts, whether it never gives up, and its bounds
-abbrev pub json_line : List ℕ → Durations → Bool → Bounds → List ℕ
+abbrev pub json_line : List ℕ → Driver → Bool → Bounds → List ℕ
 json_line policy d never b =
     codes "{\"policy\":\"" ++ policy ++ codes "\",\"attempt\":"
     ++ range_text d.least d.most ++ codes ",\"attempts\":" ++ range_text b.least b.most

@@ -4,8 +4,8 @@ use Rattle.std.specs.Prelude.{bytes_eq, nat_le, nat_lt, ◌==◌, ◌&&◌, Bool
 use Rattle.std.specs.Prelude.{if◌then◌else◌, Option, Some, None, option_and_then, Result, Ok, Err}
 use Rattle.std.specs.Io.KnownBytes.{Appends}
 use Rattle.zs_term.specs.Saturating.{max_moment}
-use Rattle.zs_bounds.specs.Driven.{any_duration}
-use Rattle.zs_bounds.specs.declared.durations.Durations.{Durations}
+use Rattle.zs_bounds.specs.Driven.{exact_driver, exact_waits}
+use Rattle.zs_bounds.specs.declared.driver.Driver.{Driver}
 use Rattle.zs_run.specs.Headline.{Reading, Writing}
 use Rattle.zs_lines.specs.Numbers.{digits_from, number_of}
 use Rattle.zs_bounds_lines.specs.Ending.{Ends}
@@ -49,26 +49,27 @@ dots_from at (b ∷ []) = None
 dots_from at (b ∷ (c ∷ bs)) = if b == 46 && c == 46 then Some at else dots_from (at + 1) (c ∷ bs)
 
 -- durations from a least to a most one, of 1 ms or more
-abbrev pub durations_between : Option ℕ → Option ℕ → Option Durations
+abbrev pub durations_between : Option ℕ → Option ℕ → Option Driver
 durations_between None most = None
 durations_between (Some least) None = None
 durations_between (Some least) (Some most) =
-    if nat_le 1 least && nat_le least most then Some (record { least = least; most = Some most })
+    if nat_le 1 least && nat_le least most then
+    Some (record { least = least; most = Some most; waits = exact_waits })
     else None
 
 -- the durations that a text is, by the place of its dots; without dots it is the most
-abbrev pub durations_at : List ℕ → Option ℕ → Option Durations
+abbrev pub durations_at : List ℕ → Option ℕ → Option Driver
 durations_at text None = durations_between (Some 1) (duration_of text)
 durations_at text (Some at) =
     durations_between (duration_of (take at text)) (duration_of (drop (at + 2) text))
 
 -- the durations that a text is, as `5s` or `20ms..5s`
-unfoldable pub durations_of : List ℕ → Option Durations
+unfoldable pub durations_of : List ℕ → Option Driver
 durations_of text = durations_at text (dots_from 0 text)
 
 -- the options if no word names others
 abbrev pub usual_options : Options
-usual_options = record { attempt = any_duration; steps = 20000 }
+usual_options = record { attempt = exact_driver; steps = 20000 }
 
 -- the options with this number of steps
 abbrev pub with_steps : Option ℕ → Options → Result Options OptionFault
@@ -76,7 +77,7 @@ with_steps None options = Err Steps
 with_steps (Some n) options = Ok (record { attempt = options.attempt; steps = n })
 
 -- the options with these durations of attempts
-abbrev pub with_attempt : Option Durations → Options → Result Options OptionFault
+abbrev pub with_attempt : Option Driver → Options → Result Options OptionFault
 with_attempt None options = Err Attempt
 with_attempt (Some attempt) options = Ok (record { attempt = attempt; steps = options.steps })
 

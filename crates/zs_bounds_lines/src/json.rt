@@ -6,7 +6,7 @@ ghost use Rattle.zs_bounds_lines.specs.BoundsLines.{bounds_line, json_line, limi
 
 use crate::options::Options;
 use std::alloc::{AllocError, Global};
-use zs_bounds::{Bounds, Durations, bounds, never_gives_up};
+use zs_bounds::{Bounds, Driver, bounds, never_gives_up};
 use zs_term::{Checked, write};
 
 // Appends a number, or null.
@@ -57,7 +57,7 @@ fn push_times(text: &mut String, told: &Bounds) -> Result<(), AllocError>
 fn push_line(
     text: &mut String,
     policy: &str,
-    attempt: Durations,
+    attempt: Driver,
     endless: bool,
     told: &Bounds,
 ) -> Result<(), AllocError>

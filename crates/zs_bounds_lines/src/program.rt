@@ -9,7 +9,7 @@ use crate::options::Options;
 use crate::running::run_bounds;
 use crate::words::{Request, request_from};
 use std::alloc::Global;
-use zs_bounds::Durations;
+use zs_bounds::Driver;
 use zs_run::{Drain, Source, write_all};
 
 const VERSION: &str = "zsched-bounds 0.3.0\n";
@@ -30,7 +30,7 @@ fn request_of(words: &[String]) -> Result<Request, OptionFault>
     ensures value { result ≡ request_from usual_options (map string_bytes words.now) }
 {
     let usual = Options {
-        attempt: Durations::any(),
+        attempt: Driver::exact(),
         steps: 20_000,
     };
     request_from(usual, words)

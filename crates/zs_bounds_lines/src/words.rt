@@ -4,7 +4,7 @@ ghost use Rattle.zs_bounds_lines.specs.Words.{dots_from, duration_of, durations_
 
 use crate::fault::OptionFault;
 use crate::options::Options;
-use zs_bounds::Durations;
+use zs_bounds::{Driver, Waits};
 use zs_lines::{digits, number};
 
 /// What the program is to do.
@@ -66,16 +66,17 @@ fn dots(text: &[u8]) -> Option<usize>
     None
 }
 
-// Durations from a least to a most one, of 1 ms or more.
-fn between(least: Option<u64>, most: Option<u64>) -> Option<Durations>
+// Driver from a least to a most one, of 1 ms or more.
+fn between(least: Option<u64>, most: Option<u64>) -> Option<Driver>
     ensures value { result ≡ durations_between least most }
 {
     let least = least?;
     let most = most?;
     if 1 <= least && least <= most {
-        Some(Durations {
+        Some(Driver {
             least,
             most: Some(most),
+            waits: Waits::exact(),
         })
     } else {
         None
@@ -84,7 +85,7 @@ fn between(least: Option<u64>, most: Option<u64>) -> Option<Durations>
 
 // The durations that a text is.
 #[tactic(auto, unfolding(crate::specs::Words::durations_of))]
-fn durations(text: &[u8]) -> Option<Durations>
+fn durations(text: &[u8]) -> Option<Driver>
     ensures value { result ≡ durations_of text.now }
 {
     match dots(text) {

@@ -3,9 +3,10 @@ use Rattle.std.specs.Prelude.{◌≡◌, ℕ, Bool, true, false, ◌&&◌, ◌||
 use Rattle.std.specs.Prelude.{if◌then◌else◌, List, Option, Some, None}
 use Rattle.zs_term.specs.Schedule.{Schedule}
 use Rattle.zs_term.specs.Causes.{SpellsSchedule}
-use Rattle.zs_bounds.specs.declared.durations.Durations.{Durations}
+use Rattle.zs_bounds.specs.declared.driver.Driver.{Driver}
 use Rattle.zs_bounds.specs.Bounds.{Promises}
 use Rattle.zs_bounds.specs.BoundsOf.{bounds_of}
+use Rattle.zs_bounds.specs.Driven.{exact_waits}
 use Rattle.zs_bounds.specs.declared.told.Bounds.{Bounds}
 use Rattle.zs_c.specs.declared.bounding.BoundsTold.{BoundsTold}
 use Rattle.zs_c.specs.declared.bounding.GivenDurations.{GivenDurations}
@@ -14,10 +15,13 @@ use Rattle.zs_c.specs.declared.refusal.Refusal.TheVariants.{NoPair, Falls, NotUt
 use Rattle.zs_c.specs.declared.refusal.Refusal.TheVariants.{KeepsList, NoRoom, NoDuration, Text}
 use Rattle.zs_c.specs.Refusals.{IsTextRefusal}
 
--- how long attempts take, as C says it; without a flag there is no most
-abbrev pub durations_of : GivenDurations → Durations
-durations_of g =
-    record { least = g.least; most = (if nat_eq g.has_most 0 then None else Some g.most) }
+-- how long attempts take, as C says it, with exact waits; without a flag there is no most
+abbrev pub driver_of : GivenDurations → Driver
+driver_of g = record {
+  least = g.least;
+  most = (if nat_eq g.has_most 0 then None else Some g.most);
+  waits = exact_waits;
+}
 
 -- whether an attempt can take so long: 1 ms or more, and a least that is at most the most
 abbrev pub is_possible : GivenDurations → Bool
@@ -68,8 +72,8 @@ pub record IsBounded (text : List ℕ) (g : GivenDurations) (n : ℕ) (r : Bound
   pub term : Schedule
   pub spelled : SpellsSchedule text term
   pub possible : is_possible g ≡ true
-  pub told : r ≡ bounds_told (bounds_of term (durations_of g) n)
-  pub promised : Promises term (durations_of g) (bounds_of term (durations_of g) n)
+  pub told : r ≡ bounds_told (bounds_of term (driver_of g) n)
+  pub promised : Promises term (driver_of g) (bounds_of term (driver_of g) n)
 
 -- Why there are no bounds: no attempt takes these durations; or one may, and the text is rejected.
 abbrev pub IsBoundsRefusal : List ℕ → GivenDurations → Refusal → Type 0

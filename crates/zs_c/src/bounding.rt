@@ -1,12 +1,12 @@
 //! What a schedule does for every input, as C reads it.
 
 ghost use Rattle.std.specs.Prelude.{◌≡◌, IfOk, IfErr};
-ghost use Rattle.zs_c.specs.Bounded.{IsBounded, IsBoundsRefusal, bounds_told, bound_told, durations_of, has_bound, is_possible, no_bounds_told};
+ghost use Rattle.zs_c.specs.Bounded.{IsBounded, IsBoundsRefusal, bounds_told, bound_told, driver_of, has_bound, is_possible, no_bounds_told};
 
 use crate::answering::schedule_in;
 use crate::refusal::Refusal;
 use std::alloc::Global;
-use zs_bounds::{Bounds, Durations};
+use zs_bounds::{Bounds, Driver, Waits};
 
 /// How long each attempt takes, in milliseconds, as C says it.
 #[repr(C)]
@@ -28,18 +28,19 @@ impl GivenDurations {
         0 < self.least && (self.has_most == 0 || self.least <= self.most)
     }
 
-    // Converts durations from the form that C writes.
-    fn durations(self) -> Durations
-        ensures value { result ≡ durations_of self }
+    // Converts durations from the form that C writes. Waits are the schedule's.
+    fn driver(self) -> Driver
+        ensures value { result ≡ driver_of self }
     {
         let most = if self.has_most == 0 {
             None
         } else {
             Some(self.most)
         };
-        Durations {
+        Driver {
             least: self.least,
             most,
+            waits: Waits::exact(),
         }
     }
 }
@@ -118,7 +119,7 @@ pub(crate) fn bounds_in(
         return Err(Refusal::NoDuration);
     }
     let checked = schedule_in(alloc, text)?;
-    let bounds = zs_bounds::bounds(alloc, &checked, given.durations(), steps)?;
+    let bounds = zs_bounds::bounds(alloc, &checked, given.driver(), steps)?;
     Ok(BoundsTold::of(bounds))
 }
 

@@ -1,13 +1,15 @@
 -- Each history of a job's timeline is one that a driver can make.
-use Rattle.std.proofs.Common.{◌≡◌, ℕ, ◌+◌, ◌-◌, ◌≤◌, ◌<◌, max, min, List, [], ◌∷◌, ◌++◌, length, Option, refl, sym, ap, subst, arith}
+use Rattle.std.proofs.Common.{◌≡◌, ℕ, if◌then◌else◌, ◌+◌, ◌-◌, ◌≤◌, ◌<◌, max, min, List, [], ◌∷◌}
+use Rattle.std.proofs.Common.{◌++◌, length, Option, refl, sym, ap, subst, arith}
 use Rattle.std.specs.Prelude.{Some, None}
 use Rattle.std.specs.List.{All}
 use Rattle.zs_term.specs.Saturating.{saturated, max_moment}
 use Rattle.zs_effect.specs.Scripts.{IsScript, entry_at, no_entry}
 use Rattle.zs_effect.specs.declared.script.Beat.{Beat}
+use Rattle.zs_term.specs.Schedule.{Schedule}
 use Rattle.zs_step.specs.declared.decision.Decision.{Decision}
 use Rattle.zs_step.specs.declared.decision.Decision.TheVariants.{Stop, Next}
-use Rattle.zs_step.specs.History.{History, first_moment}
+use Rattle.zs_step.specs.History.{History, first_moment, last_moment}
 use Rattle.zs_step.specs.Answer.{Answer, answer_of}
 use Rattle.zs_step.specs.Laws.{IsNotBefore}
 use Rattle.zs_step.proofs.Moments.{answer_of-late}
@@ -17,13 +19,16 @@ use Rattle.zs_drive.specs.Values.{JobRecord, AttemptedValue, EndedValue}
 use Rattle.zs_drive.specs.Timeline.{timeline_of, beat_after, number_of, ending_by_outcome}
 use Rattle.zs_drive.specs.DriverRules.{pair_of, history_from}
 use Rattle.zs_drive.proofs.Follows.{GoesOn, IsAsked, EndsAt, Follows}
-use Rattle.zs_drive.proofs.Ticks.{first_tick_from-from, first_tick_from-before}
+use Rattle.zs_drive.proofs.Ticks.{tick_cases, first_tick_from-from, first_tick_from-before}
 use Rattle.zs_drive.proofs.Following.{timeline_of-keeps}
-use Rattle.zs_bounds.specs.declared.durations.Durations.{Durations}
-use Rattle.zs_bounds.specs.Driven.{any_duration, shortest, IsStep, IsAttempt, LetsEndAt, IsDriven}
+use Rattle.zs_bounds.specs.declared.driver.Driver.{Driver}
+use Rattle.zs_bounds.specs.declared.waits.Waits.{Waits}
+use Rattle.zs_bounds.specs.Driven.{exact_driver, shortest, IsStep, IsAttempt, IsNeverEarly}
+use Rattle.zs_bounds.specs.Driven.{LetsEndAt, IsDriven}
+use Rattle.zs_bounds.proofs.ScheduleWaits.{lets-late}
 use Rattle.zs_bounds.specs.Bounds.{NextEndsAt}
 use Rattle.zs_job_bounds.specs.Histories.{HasInputs, IsEndAfter, history_at, IsHistoryOf}
-use Rattle.zs_job_bounds.specs.JobBounds.{Takes}
+use Rattle.zs_job_bounds.specs.JobBounds.{ApartAreWithin, Takes, EachMsTakes}
 
 -- an entry of a script has what all its entries have
 entry-has : (P : Beat → Type 0) (beats : List Beat) (k : ℕ) → IsScript beats → All P beats → P (entry_at beats k)
@@ -32,11 +37,35 @@ entry-has P beats k script all =
     all (min k (length beats) - 1) no_entry index
 
 -- each attempt takes 1 millisecond or more
-pub takes-any : (job : JobRecord) (ticks : List ℕ) → IsScript job.script → Takes any_duration job ticks
+pub takes-any : (job : JobRecord) (ticks : List ℕ) → IsScript job.script →
+    Takes exact_driver job ticks
 takes-any job ticks script = record {
   least = λ k e inside. let one = script.timed k e inside in omega (arith, one);
   most = λ k none. absurd cc;
+  waits = record { least = refl; most = omega arith };
 }
+
+-- on a clock that ticks each millisecond nothing is late
+pub each_ms-takes : (job : JobRecord) (ticks : List ℕ) → EachMsTakes job ticks
+each_ms-takes job ticks d takes =
+    let never : d.waits.late ≡ 0 = ap (λ (v : Waits). v.late) takes.waits in
+    (record {
+      least = takes.least;
+      most = λ k e. (
+          (λ n b inside. (let part = (takes.most k e).0 n b inside in omega (arith, part, never))),
+          (λ x t from is. (let at = (takes.most k e).1 x t is in omega (arith, at))));
+      waits = subst IsNeverEarly (sym takes.waits) (record { least = refl; most = omega arith });
+    }, never)
+
+-- the next of some ticks is as far away as the ticks are apart
+pub apart-within : ApartAreWithin
+unfolding first_tick_from
+apart-within gap start [] apart x t from = λ is. cc
+apart-within gap start (c ∷ ticks) apart x t from =
+    let first : c ≤ start + gap = apart.0 in
+    tick_cases c x (λ b. (if b then Some c else first_tick_from ticks x) ≡ Some t → t ≤ x + gap)
+        (λ before. apart-within gap (c + 1) ticks apart.1 x t (omega (arith, before)))
+        (λ after is. let same : c ≡ t = cc in omega (arith, same, first, from))
 
 not-empty : (xs ys : List AttemptedValue) (a : AttemptedValue) → xs ++ a ∷ ys ≡ [] → ⊥
 not-empty [] ys a is = cc
@@ -50,41 +79,94 @@ LetsBegin Stop x = ⊥
 LetsBegin (Next y) x = y ≡ x
 
 -- a history that a driver can make, if the first attempt is due at the job's start
-abbrev pub IsRunOf : Durations → JobRecord → History → Type 0
-IsRunOf d job h = IsDriven job.schedule d h × IsAttempt d job.start (first_moment h)
+pub record IsRunOf (d : Driver) (job : JobRecord) (h : History) : Type 0 where
+  pub driven : IsDriven job.schedule d h
+  pub begun : ℕ
+  pub soon : begun ≤ job.start + d.waits.late
+  pub first : IsAttempt d begun (first_moment h)
+  pub from : job.start ≤ last_moment h
 
 -- the first attempt, or one that a step lets begin, after a history that a driver can make
-abbrev pub IsDueAfter : Durations → JobRecord → History → ℕ → Type 0
+abbrev pub IsDueAfter : Driver → JobRecord → History → ℕ → Type 0
 IsDueAfter d job [] x = x ≡ job.start
-IsDueAfter d job (q ∷ h) x = IsRunOf d job (q ∷ h) × LetsBegin (answer_of job.schedule (q ∷ h)).decision x
+IsDueAfter d job (q ∷ h) x =
+    IsRunOf d job (q ∷ h) ×
+        (LetsBegin (answer_of job.schedule (q ∷ h)).decision x × (job.start ≤ x))
 
-lets-end : (d : Durations) (e : Decision) (x m : ℕ) → LetsBegin e x → IsAttempt d x m → LetsEndAt d e m
-lets-end d Stop x m lets attempt = lets
-lets-end d (Next y) x m lets attempt = subst (λ z. IsAttempt d z m) (sym lets) attempt
-
--- an attempt that is due ends
-pub next-ends : (d : Durations) (job : JobRecord) (h : History) (x m : ℕ) → IsDueAfter d job h x → IsAttempt d x m → NextEndsAt job.schedule d job.start h m
-next-ends d job [] x m due attempt = subst (λ z. IsAttempt d z m) due attempt
-next-ends d job (q ∷ h) x m due attempt = (due.0.0, due.0.1, lets-end d (answer_of job.schedule (q ∷ h)).decision x m due.1 attempt)
-
--- a step after the attempt that is due makes a longer history
-driven-step : (d : Durations) (job : JobRecord) (h : History) (x : ℕ) (p : ℕ × ℕ) → IsDueAfter d job h x → IsStep p → IsAttempt d x p.0
-    → IsRunOf d job (p ∷ h)
-driven-step d job [] x p due step attempt = (step, subst (λ z. IsAttempt d z p.0) due attempt)
-driven-step d job (q ∷ h) x p due step attempt =
-    ((step, lets-end d (answer_of job.schedule (q ∷ h)).decision x p.0 due.1 attempt, due.0.0), due.0.1)
+-- no attempt is due before the start
+pub due-from : (d : Driver) (job : JobRecord) (h : History) (x : ℕ) → IsDueAfter d job h x →
+    job.start ≤ x
+due-from d job [] x due = omega (arith, due)
+due-from d job (q ∷ h) x due = due.1.1
 
 -- the last step of a history is one of a clock
-run-tick : (d : Durations) (job : JobRecord) (p : ℕ × ℕ) (h : History) → IsDriven job.schedule d (p ∷ h) → IsStep p
+run-tick : (d : Driver) (job : JobRecord) (p : ℕ × ℕ) (h : History) →
+    IsDriven job.schedule d (p ∷ h) → IsStep p
 run-tick d job p [] driven = driven
 run-tick d job p (q ∷ h) driven = driven.0
 
-pub next-due : (d : Durations) (job : JobRecord) (h : History) (p : ℕ × ℕ) (y x : ℕ) → IsRunOf d job (p ∷ h)
+lets-by : (d : Driver) (s : Schedule) (h : History) (e : Decision) (x l m : ℕ) →
+    IsNeverEarly d.waits → last_moment h ≤ max_tick → (answer_of s h).decision ≡ e → LetsBegin e x →
+    l ≤ d.waits.late → x + l ≤ max x max_tick → IsAttempt d (x + l) m →
+        LetsEndAt d (last_moment h) (answer_of s h).decision m
+lets-by d s h Stop x l m never tick is lets late by attempt = absurd lets
+lets-by d s h (Next y) x l m never tick is lets late by attempt =
+    lets-late d s h y l m never tick is late (omega (arith, by, lets))
+        (subst (λ z. IsAttempt d (z + l) m) (sym lets) attempt)
+
+lets-end : (d : Driver) (job : JobRecord) (q : ℕ × ℕ) (h : History) (x l m : ℕ) →
+    IsNeverEarly d.waits → IsDueAfter d job (q ∷ h) x →
+    l ≤ d.waits.late → x + l ≤ max x max_tick → IsAttempt d (x + l) m →
+        LetsEndAt d q.0 (answer_of job.schedule (q ∷ h)).decision m
+lets-end d job q h x l m never due late by attempt =
+    lets-by d job.schedule (q ∷ h) (answer_of job.schedule (q ∷ h)).decision x l m never
+        (run-tick d job q h due.0.driven).tick refl due.1.0 late by attempt
+
+-- An attempt that is due ends, by the moment at which the first one began.
+pub record EndsNext (d : Driver) (job : JobRecord) (h : History) (m : ℕ) : Type 0 where
+  pub begun : ℕ
+  pub soon : begun ≤ job.start + d.waits.late
+  pub ends : NextEndsAt job.schedule d begun h m
+
+pub next-ends : (d : Driver) (job : JobRecord) (h : History) (x l m : ℕ) → IsNeverEarly d.waits →
+    IsDueAfter d job h x →
+    l ≤ d.waits.late → x + l ≤ max x max_tick → IsAttempt d (x + l) m → EndsNext d job h m
+next-ends d job [] x l m never due late by attempt =
+    record { begun = x + l; soon = omega (arith, due, late); ends = attempt }
+next-ends d job (q ∷ h) x l m never due late by attempt =
+    let run : IsRunOf d job (q ∷ h) = due.0 in
+    record { begun = run.begun; soon = run.soon; ends =
+        (run.driven, run.first, lets-end d job q h x l m never due late by attempt) }
+
+-- a step after the attempt that is due makes a longer history
+driven-step : (d : Driver) (job : JobRecord) (h : History) (x l : ℕ) (p : ℕ × ℕ) →
+    IsNeverEarly d.waits → IsDueAfter d job h x → IsStep p →
+    l ≤ d.waits.late → x + l ≤ max x max_tick → IsAttempt d (x + l) p.0 → IsRunOf d job (p ∷ h)
+driven-step d job [] x l p never due step late by attempt = record {
+  driven = step;
+  begun = x + l;
+  soon = omega (arith, due, late);
+  first = attempt;
+  from = (let least = attempt.least in omega (arith, due, least));
+}
+driven-step d job (q ∷ h) x l p never due step late by attempt =
+    let run : IsRunOf d job (q ∷ h) = due.0 in
+    record {
+      driven = (step, lets-end d job q h x l p.0 never due late by attempt, run.driven);
+      begun = run.begun;
+      soon = run.soon;
+      first = run.first;
+      from = (let least = attempt.least in let start = due.1.1 in omega (arith, least, start));
+    }
+
+pub next-due : (d : Driver) (job : JobRecord) (h : History) (p : ℕ × ℕ) (y x : ℕ) →
+    IsRunOf d job (p ∷ h)
     → (answer_of job.schedule (p ∷ h)).decision ≡ Next y → x ≡ max y p.0 → IsDueAfter d job (p ∷ h) x
 next-due d job h p y x run is at =
-    let step : IsStep p = run-tick d job p h run.0 in
+    let step : IsStep p = run-tick d job p h run.driven in
     let late : p.0 ≤ y = subst (IsNotBefore p.0) is (answer_of-late job.schedule (p ∷ h) (omega (arith, step.tick))) in
-    (run, subst (λ e. LetsBegin e x) (sym is) (omega (arith, at, late)))
+    let from : job.start ≤ p.0 = run.from in
+    (run, (subst (λ e. LetsBegin e x) (sym is) (omega (arith, at, late)), omega (arith, at, from)))
 
 module _ (job : JobRecord) (ticks : List ℕ) (due : Option ℕ) (ending : Option Ending) where
   -- what follows an attempt's end, by the schedule's decision
@@ -123,36 +205,62 @@ module _ (job : JobRecord) (ticks : List ℕ) (due : Option ℕ) (ending : Optio
     by = goes-asked later h end (ending_by_outcome job.mode end.outcome) some ends.2;
   }
 
-module _ (d : Durations) (job : JobRecord) (script : IsScript job.script) (inputs : HasInputs job.script) (ticks : List ℕ) (clock : AreTicks ticks)
+-- how late a driver begins an attempt at s that is due at x; one with no most may take longer instead
+abbrev pub lag : Driver → ℕ → ℕ → ℕ
+lag d x s = min (s - x) d.waits.late
+
+module _ (d : Driver) (job : JobRecord) (script : IsScript job.script)
+    (inputs : HasInputs job.script) (ticks : List ℕ) (clock : AreTicks ticks)
     (takes : Takes d job ticks) where
-  -- an attempt that is due at x takes as long as its entry says; with a most, it begins at x
-  pub attempt-from : (h : History) (x s : ℕ) → x ≤ s → ((k : ℕ) → d.most ≡ Some k → s ≡ x) → IsAttempt d x (s + (beat_after job h).ms)
+  -- an attempt that is due at x takes as long as its entry says; with a most, it begins soon enough
+  pub attempt-from : (h : History) (x s : ℕ) → x ≤ s →
+      ((k : ℕ) → d.most ≡ Some k → s ≤ x + d.waits.late) →
+          IsAttempt d (x + lag d x s) (s + (beat_after job h).ms)
   attempt-from h x s from begins = record {
     least = (
         let least : shortest d ≤ (beat_after job h).ms = entry-has (λ beat. shortest d ≤ beat.ms) job.script (length h + 1) script takes.least in
         omega (arith, from, least));
     most = λ k e. (
-        let most : (beat_after job h).ms ≤ k = entry-has (λ beat. beat.ms ≤ k) job.script (length h + 1) script (takes.most k e).0 in
+        let most : (beat_after job h).ms + d.waits.late ≤ k =
+            entry-has (λ beat. beat.ms + d.waits.late ≤ k) job.script (length h + 1) script
+                (takes.most k e).0 in
         let at = begins k e in
         omega (arith, at, most));
   }
 
   -- the same if it has begun
-  pub attempt-of : (h : History) (x s : ℕ) → first_tick_from ticks x ≡ Some s → IsAttempt d x (s + (beat_after job h).ms)
-  attempt-of h x s begun = attempt-from h x s (first_tick_from-from ticks x s begun) (λ k e. (takes.most k e).1 x s begun)
+  pub attempt-of : (h : History) (x s : ℕ) → job.start ≤ x → first_tick_from ticks x ≡ Some s →
+      IsAttempt d (x + lag d x s) (s + (beat_after job h).ms)
+  attempt-of h x s from begun =
+      attempt-from h x s (first_tick_from-from ticks x s begun)
+          (λ k e. (takes.most k e).1 x s from begun)
+
+  -- it begins in time for a driver
+  pub lag-by : (x s : ℕ) → first_tick_from ticks x ≡ Some s → x + lag d x s ≤ max x max_tick
+  lag-by x s begun =
+      let from : x ≤ s = first_tick_from-from ticks x s begun in
+      let tick : s < max_tick + 1 =
+          first_tick_from-before ticks (max_tick + 1) x s clock.bounded begun in
+      omega (arith, from, tick)
 
   -- it ends at the first tick that is late enough
-  attempt-ends : (h : History) (x s w at : ℕ) → first_tick_from ticks x ≡ Some s → w ≡ saturated (s + (beat_after job h).ms)
-      → first_tick_from ticks w ≡ Some at → at < max_tick + 1 → IsAttempt d x at
-  attempt-ends h x s w at begun due ended small =
-      let attempt = attempt-of h x s begun in
+  attempt-ends : (h : History) (x s w at : ℕ) → job.start ≤ x → first_tick_from ticks x ≡ Some s →
+      w ≡ saturated (s + (beat_after job h).ms)
+      → first_tick_from ticks w ≡ Some at → at < max_tick + 1 → IsAttempt d (x + lag d x s) at
+  attempt-ends h x s w at start begun due ended small =
+      let attempt = attempt-of h x s start begun in
       let late : w ≤ at = first_tick_from-from ticks w at ended in
+      let from : x ≤ s = first_tick_from-from ticks x s begun in
       record {
         least = (let least = attempt.least in omega (arith, least, due, late, small));
         most = λ k e. (
-            let most = attempt.most k e in
-            let now : at ≡ w = (takes.most k e).1 w at ended in
-            omega (arith, most, due, now));
+            let most : (beat_after job h).ms + d.waits.late ≤ k =
+                entry-has (λ beat. beat.ms + d.waits.late ≤ k) job.script (length h + 1) script
+                    (takes.most k e).0 in
+            let soon : s ≤ x + d.waits.late = (takes.most k e).1 x s start begun in
+            let now : at ≤ w + d.waits.late =
+                (takes.most k e).1 w at (omega (arith, due, late, small, from, start)) ended in
+            omega (arith, most, due, now, soon, from));
       }
 
   -- the end of an attempt that is due at x makes a history that a driver can make
@@ -165,8 +273,10 @@ module _ (d : Durations) (job : JobRecord) (script : IsScript job.script) (input
       let input : number_of (beat_after job h).outcome ≤ max_moment =
       entry-has (λ beat. number_of beat.outcome ≤ max_moment) job.script (length h + 1) script inputs in
       let same : number_of end.outcome ≡ number_of (beat_after job h).outcome = ap number_of own in
-      driven-step d job h x (pair_of end) due (record { tick = omega (arith, tick); input = omega (arith, input, same) })
-      (attempt-ends h x s w end.at begun refl ended tick)
+      driven-step d job h x (lag d x s) (pair_of end) takes.waits due
+          (record { tick = omega (arith, tick); input = omega (arith, input, same) })
+      (omega arith) (lag-by x s begun)
+          (attempt-ends h x s w end.at (due-from d job h x due) begun refl ended tick)
 
   module _ (due : Option ℕ) (ending : Option Ending) where
     -- an attempt that follows others after history h: when it is due, after which history
@@ -245,4 +355,6 @@ module _ (d : Durations) (job : JobRecord) (script : IsScript job.script) (input
   steps-on-histories earlier end step e is = (known-end earlier end e).stepped step is
 
   pub histories-driven : (h : History) → IsHistoryOf job ticks h → IsDriven job.schedule d h
-  histories-driven h of = subst (IsDriven job.schedule d) (sym of.is) (known-end of.earlier of.end of.ends).driven.0
+  histories-driven h of =
+      subst (IsDriven job.schedule d) (sym of.is)
+          (known-end of.earlier of.end of.ends).driven.driven

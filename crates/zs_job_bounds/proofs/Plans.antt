@@ -36,7 +36,7 @@ module _ (bytes : List ℕ) (plan : PlanRecord) (is : plan_of bytes ≡ Ok plan)
   promised-in_report k e inside d takes b promises =
       let lawful = plan_is_lawful bytes plan is in
       let job : JobRecord = slice_index_or plan.jobs k e in
-      within-bounds d job b promises (lawful.jobs k e inside).script (plan-inputs bytes plan is k e inside) (ticks_of plan.clock)
+      within-bounds d job b takes.waits promises (lawful.jobs k e inside).script (plan-inputs bytes plan is k e inside) (ticks_of plan.clock)
       (ticks-rising plan.clock lawful.clock).0 takes
 
   pub computed-in_report : All (InReport ComputedInReport plan) plan.jobs
@@ -50,7 +50,7 @@ module _ (bytes : List ℕ) (plan : PlanRecord) (is : plan_of bytes ≡ Ok plan)
   promised-run-in_report k e inside d takes b promises =
       let lawful = plan_is_lawful bytes plan is in
       let job : JobRecord = slice_index_or plan.jobs k e in
-      ends-in-time d job b promises (lawful.jobs k e inside).script (plan-inputs bytes plan is k e inside) (ticks_of plan.clock)
+      ends-in-time d job b takes.waits promises (lawful.jobs k e inside).script (plan-inputs bytes plan is k e inside) (ticks_of plan.clock)
       (ticks-rising plan.clock lawful.clock).0 takes
 
   pub computed-run-in_report : All (InReport ComputedRunInReport plan) plan.jobs

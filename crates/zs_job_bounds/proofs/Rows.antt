@@ -19,14 +19,14 @@ use Rattle.zs_drive.specs.Values.{JobRecord, AttemptedValue}
 use Rattle.zs_drive.specs.Timeline.{number_of, ended_attempt, timeline_of, from, from_begin, from_wait, by_outcome, by_answer}
 use Rattle.zs_agenda.specs.Ticks.{every_ms}
 use Rattle.zs_engine.specs.Times.{moments_from, ticks_of}
-use Rattle.zs_bounds.specs.declared.durations.Durations.{Durations}
+use Rattle.zs_bounds.specs.declared.driver.Driver.{Driver}
 use Rattle.zs_bounds.specs.declared.told.Bounds.{Bounds}
-use Rattle.zs_bounds.specs.Driven.{any_duration}
+use Rattle.zs_bounds.specs.Driven.{exact_driver, exact_waits}
 use Rattle.zs_bounds.specs.BoundsOf.{bounds_of}
 use Rattle.zs_bounds.proofs.Promising.{bounds_of-promises}
 use Rattle.zs_job_bounds.specs.Histories.{IsHistoryOf}
-use Rattle.zs_job_bounds.specs.JobBounds.{Takes, all_waits, IsWithin, EndsInTime}
-use Rattle.zs_job_bounds.proofs.Histories.{takes-any}
+use Rattle.zs_job_bounds.specs.JobBounds.{AreApart, Takes, all_waits, IsWithin, EndsInTime}
+use Rattle.zs_job_bounds.proofs.Histories.{takes-any, each_ms-takes, apart-within}
 use Rattle.zs_job_bounds.proofs.Plans.{every_ms-ticks}
 use Rattle.zs_job_bounds.proofs.Within.{within-bounds}
 
@@ -35,7 +35,8 @@ abbrev backoff : Schedule
 backoff = two both (leaf (exponential 100 2)) (leaf (recurs 2))
 
 -- so at least and at most 3 attempts, no wait over 200 ms, and 300 ms in all
-three_attempts : bounds_of backoff any_duration 20 ≡ record { seen = 3; least = 3; most = Some 3; longest = 200; total = Some 300; longest_run = None }
+three_attempts : bounds_of backoff exact_driver 20 ≡ record { seen = 3; least = 3; most =
+    Some 3; longest = 200; total = Some 300; longest_run = None }
 three_attempts = refl
 
 abbrev retry : List Beat → JobRecord
@@ -114,9 +115,12 @@ busy-ticks = record {
   bounded = (omega arith, (omega arith, (omega arith, (omega arith, (omega arith, (omega arith, tt))))));
 }
 
-fails_thrice-within : IsWithin (bounds_of backoff any_duration 20) (timeline_of failing busy).attempts
+fails_thrice-within : IsWithin (bounds_of backoff exact_driver 20)
+    (timeline_of failing busy).attempts
 fails_thrice-within =
-    within-bounds any_duration failing (bounds_of backoff any_duration 20) (bounds_of-promises backoff any_duration 20 refl) fails-script fails-inputs
+    within-bounds exact_driver failing (bounds_of backoff exact_driver 20)
+        (record { least = refl; most = omega arith })
+            (bounds_of-promises backoff exact_driver 20 refl) fails-script fails-inputs
     busy busy-ticks (takes-any failing busy fails-script)
 
 -- ---- smaller bounds don't hold
@@ -163,8 +167,8 @@ quick = record {
   script = record { ms = 1; outcome = Bad 500 } ∷ [];
 }
 
-abbrev of_1_ms : Durations
-of_1_ms = record { least = 1; most = Some 1 }
+abbrev of_1_ms : Driver
+of_1_ms = record { least = 1; most = Some 1; waits = exact_waits }
 
 six_ms : bounds_of quick.schedule of_1_ms 20 ≡ record { seen = 3; least = 3; most = Some 3; longest = 2; total = Some 3; longest_run = Some 6 }
 six_ms = refl
@@ -191,10 +195,11 @@ quick-most (suc k) d lt = absurd (omega (arith, lt))
 
 -- its attempts take 1 ms on this clock
 quick-takes : Takes of_1_ms quick short
-quick-takes = record {
+quick-takes = (each_ms-takes quick short of_1_ms (record {
   least = quick-least;
   most = λ k is. let one : 1 ≡ k = cc in (subst (λ n. All (λ beat. beat.ms ≤ n) quick.script) one quick-most, every_ms-ticks 6);
-}
+  waits = refl;
+})).0
 
 -- so the job ends within 6 ms, and not within 5
 no_shorter_run : EndsInTime (record { seen = 3; least = 3; most = Some 3; longest = 2; total = Some 3; longest_run = Some 5 }) short 0
@@ -206,3 +211,73 @@ no_shorter_run in_time =
     (record { at = 6; outcome = Bad 500; step = Some (answer (pair (number 4) (number 2)) Stop) })
     (record { begun = 5; later = []; split = refl }) in
     omega (arith, late)
+
+-- ---- ticks at most 3 ms apart: each attempt begins and ends up to 2 ms late
+
+abbrev late : JobRecord
+late = record {
+  name = [];
+  mode = Retry;
+  schedule = two both (leaf (exponential 1 2)) (leaf (recurs 2));
+  start = 1;
+  script = record { ms = 1; outcome = Bad 500 } ∷ [];
+}
+
+abbrev coarse : List ℕ
+coarse = 0 ∷ 3 ∷ 6 ∷ 9 ∷ 12 ∷ 13 ∷ 16 ∷ 19 ∷ []
+
+-- attempts of up to 1 + 2 ms, and waits that are up to 2 ms late
+abbrev of_3_ms : Driver
+of_3_ms = record {
+  least = 1;
+  most = Some 3;
+  waits = record { least_percent = 100; most_percent = 100; asked = 0; late = 2 };
+}
+
+sixteen_ms : bounds_of late.schedule of_3_ms 20 ≡ record { seen = 3; least = 3; most =
+    Some 3; longest = 4; total = Some 7; longest_run = Some 16 }
+sixteen_ms = refl
+
+late-least : (k : ℕ) (d : Beat) → k < 1 → 1 ≤ (slice_index_or late.script k d).ms
+late-least zero d lt = omega arith
+late-least (suc k) d lt = absurd (omega (arith, lt))
+
+late-most : (k : ℕ) (d : Beat) → k < 1 → (slice_index_or late.script k d).ms + 2 ≤ 3
+late-most zero d lt = omega arith
+late-most (suc k) d lt = absurd (omega (arith, lt))
+
+coarse-apart : AreApart 2 1 coarse
+coarse-apart =
+    (omega arith, (omega arith, (omega arith, (omega arith, (omega arith, (omega arith, (omega arith,
+        (omega arith, tt))))))))
+
+-- the job does on this clock what the driver may do
+late-takes : Takes of_3_ms late coarse
+late-takes = record {
+  least = late-least;
+  most = λ k is. let three : 3 ≡ k = cc in
+      (subst (λ n. All (λ beat. beat.ms + 2 ≤ n) late.script) three late-most,
+          apart-within 2 1 coarse coarse-apart);
+  waits = record { least = refl; most = omega arith };
+}
+
+-- The job begins 2 ms after its start, and ends 16 ms later.
+late_attempts : timeline_of late coarse ≡ record {
+  attempts = failed 3 6 1 0 (Next 7) ∷ failed 9 12 2 1 (Next 14) ∷ failed 16 19 4 2 Stop ∷ [];
+  due = None;
+  ending = Some (Failed 500);
+}
+unfolding timeline_of from from_begin from_wait by_outcome by_answer first_tick_from
+late_attempts = refl
+
+no_shorter_late_run : EndsInTime
+    (record { seen = 3; least = 3; most = Some 3; longest = 4; total = Some 7; longest_run =
+        Some 15 }) coarse (1 + 2)
+    (timeline_of late coarse).attempts (timeline_of late coarse).ending → ⊥
+unfolding timeline_of from from_begin from_wait by_outcome by_answer first_tick_from
+no_shorter_late_run in_time =
+    let too_late : 19 ≤ 1 + 2 + 15 =
+    in_time.ends 15 refl (failed 3 6 1 0 (Next 7) ∷ failed 9 12 2 1 (Next 14) ∷ [])
+    (record { at = 19; outcome = Bad 500; step = Some (answer (pair (number 4) (number 2)) Stop) })
+    (record { begun = 16; later = []; split = refl }) in
+    omega (arith, too_late)

@@ -15,12 +15,16 @@ use Rattle.zs_drive.specs.Timeline.{timeline_of, beat_after, ending_by_outcome, 
 use Rattle.zs_drive.specs.DriverRules.{pair_of}
 use Rattle.zs_drive.proofs.Follows.{GoesOn, IsAsked, EndsAt, Follows}
 use Rattle.zs_drive.proofs.Ticks.{lt_cases, first_tick_from-from, first_tick_from-before, AllBefore-none}
-use Rattle.zs_bounds.specs.declared.durations.Durations.{Durations}
+use Rattle.zs_bounds.specs.declared.driver.Driver.{Driver}
 use Rattle.zs_bounds.specs.declared.told.Bounds.{Bounds}
+use Rattle.zs_bounds.specs.Driven.{max_tick, IsAttempt, IsNeverEarly}
+use Rattle.zs_bounds.proofs.ScheduleWaits.{bounds-waits}
 use Rattle.zs_bounds.specs.Bounds.{wait_of, last_wait, total_wait, Promises}
 use Rattle.zs_job_bounds.specs.Histories.{HasInputs, IsEndAfter, history_at}
 use Rattle.zs_job_bounds.specs.JobBounds.{Takes, step_wait, end_wait, all_waits, IsWithin, EndsInTime}
-use Rattle.zs_job_bounds.proofs.Histories.{LetsBegin, IsRunOf, IsDueAfter, attempt-from, attempt-of, continues, driven-end, whole, next-due, next-ends, known-end}
+use Rattle.zs_job_bounds.proofs.Histories.{LetsBegin, IsRunOf, IsDueAfter, due-from, lag, lag-by}
+use Rattle.zs_job_bounds.proofs.Histories.{attempt-from, attempt-of, continues, driven-end, whole}
+use Rattle.zs_job_bounds.proofs.Histories.{next-due, next-ends, known-end}
 
 stop-lets : (d : Decision) (x : ℕ) → d ≡ Stop → LetsBegin d x → ⊥
 stop-lets d x is lets = subst (λ e. LetsBegin e x) is lets
@@ -34,21 +38,24 @@ wait-within : (m x l : ℕ) (d : Decision) → d ≡ Next x → wait_of m d ≤ 
 wait-within m x l Stop is le = absurd cc
 wait-within m x l (Next y) is le = let same : y ≡ x = cc in omega (arith, same, le)
 
-module _ (a : Durations) (job : JobRecord) (b : Bounds) (promises : Promises job.schedule a b) where
+module _ (a : Driver) (job : JobRecord) (b : Bounds) (never : IsNeverEarly a.waits)
+    (promises : Promises job.schedule a b) where
   -- an attempt that is due after a history has a number of at most `most`
   one-more : (k : ℕ) → b.most ≡ Some k → (h : History) (x : ℕ) → IsDueAfter a job h x → length h + 1 ≤ k
   one-more k is [] x due = promises.most k is ((0, 0) ∷ []) (record { tick = omega arith; input = omega arith })
   one-more k is (q ∷ h) x due =
-      let few : length (q ∷ h) ≤ k = promises.most k is (q ∷ h) due.0.0 in
+      let few : length (q ∷ h) ≤ k = promises.most k is (q ∷ h) due.0.driven in
       lt_cases (length (q ∷ h)) k (λ _. length (q ∷ h) + 1 ≤ k) (λ l. omega (arith, l))
       (λ l.
       let last : length (q ∷ h) ≡ k = omega (arith, few, l) in
-      absurd (stop-lets (answer_of job.schedule (q ∷ h)).decision x (promises.done k is (q ∷ h) due.0.0 last) due.1))
+      absurd (stop-lets (answer_of job.schedule (q ∷ h)).decision x
+          (promises.done k is (q ∷ h) due.0.driven last) due.1.0))
 
   -- the waits up to a history are within the total
   waits-fit : (t : ℕ) → b.total ≡ Some t → (h : History) (x : ℕ) → IsDueAfter a job h x → total_wait job.schedule h ≤ t
   waits-fit t is [] x due = omega arith
-  waits-fit t is (q ∷ h) x due = promises.total t is (q ∷ h) due.0.0
+  waits-fit t is (q ∷ h) x due =
+      (bounds-waits job.schedule a b never promises).total t is (q ∷ h) due.0.driven
 
   module _ (script : IsScript job.script) (inputs : HasInputs job.script) (ticks : List ℕ) (clock : AreTicks ticks) (takes : Takes a job ticks)
       (due : Option ℕ) (ending : Option Ending) where
@@ -70,7 +77,9 @@ module _ (a : Durations) (job : JobRecord) (b : Bounds) (promises : Promises job
         → total_wait job.schedule h + (end_wait (Some end) + all_waits later) ≤ t
     waits-by t is later h end Stop driven decides stepped again goes =
         let own : end_wait (Some end) ≡ last_wait job.schedule (pair_of end ∷ h) = ap (step_wait end.at) stepped in
-        let all : last_wait job.schedule (pair_of end ∷ h) + total_wait job.schedule h ≤ t = promises.total t is (pair_of end ∷ h) driven.0 in
+        let all : last_wait job.schedule (pair_of end ∷ h) + total_wait job.schedule h ≤ t =
+            (bounds-waits job.schedule a b never promises).total t is (pair_of end ∷ h)
+                driven.driven in
         let none : all_waits later ≡ 0 = ap all_waits goes.0 in omega (arith, own, all, none)
     waits-by t is later h end (Next y) driven decides stepped again goes =
         let own : end_wait (Some end) ≡ last_wait job.schedule (pair_of end ∷ h) = ap (step_wait end.at) stepped in
@@ -119,10 +128,20 @@ module _ (a : Durations) (job : JobRecord) (b : Bounds) (promises : Promises job
         let from : y ≤ t = first_tick_from-from ticks y t is in
         omega (arith, before, from, le)
 
-    module _ (r t : ℕ) (is : b.longest_run ≡ Some r) (tick : first_tick_from ticks (job.start + r) ≡ Some t) where
+    module _ (r t : ℕ) (is : b.longest_run ≡ Some r)
+        (tick : first_tick_from ticks (job.start + a.waits.late + r) ≡ Some t) where
       -- the job has ended
       abbrev HasEnded : Type 0
       HasEnded = (e : Ending) × (ending ≡ Some e)
+
+      -- an attempt that is due ends within the longest run
+      ends-soon : (h : History) (x l m : ℕ) → IsDueAfter a job h x → l ≤ a.waits.late →
+          x + l ≤ max x max_tick → IsAttempt a (x + l) m → m ≤ job.start + a.waits.late + r
+      ends-soon h x l m due late by attempt =
+          let next = next-ends a job h x l m never due late by attempt in
+          let within = promises.next r is next.begun h m next.ends in
+          let soon = next.soon in
+          omega (arith, within, soon)
 
       over-by : (later : List AttemptedValue) (h : History) (end : EndedValue) (d : Decision) → IsRunOf a job (pair_of end ∷ h)
           → (answer_of job.schedule (pair_of end ∷ h)).decision ≡ d
@@ -144,9 +163,13 @@ module _ (a : Durations) (job : JobRecord) (b : Bounds) (promises : Promises job
           → EndsAt job ticks (Follows job ticks later due ending) h later due ending (saturated (s + (beat_after job h).ms)) ended → HasEnded
       over-end later h x s None begins begun again ends =
           let m : ℕ = s + (beat_after job h).ms in
-          let attempt = attempt-of a job script inputs ticks clock takes h x s begun in
-          let in_time : m ≤ job.start + r = promises.next r is job.start h m (next-ends a job h x m begins attempt) in
-          absurd (has-tick (saturated m) (job.start + r) t tick (omega (arith, in_time)) ends.0)
+          let attempt =
+              attempt-of a job script inputs ticks clock takes h x s (due-from a job h x begins)
+                  begun in
+          let by = lag-by a job script inputs ticks clock takes x s begun in
+          let in_time = ends-soon h x (lag a x s) m begins (omega arith) by attempt in
+          absurd (has-tick (saturated m) (job.start + a.waits.late + r) t tick
+              (omega (arith, in_time)) ends.0)
       over-end later h x s (Some end) begins begun again ends =
           let driven = driven-end a job script inputs ticks clock takes h x s end begins begun ends.0 ends.1 in
           over-asked later h end (ending_by_outcome job.mode end.outcome) driven again ends.2
@@ -156,9 +179,12 @@ module _ (a : Durations) (job : JobRecord) (b : Bounds) (promises : Promises job
       unfolding Follows
       all-over [] h x begins follows =
           let m : ℕ = x + (beat_after job h).ms in
-          let attempt = attempt-from a job script inputs ticks clock takes h x x (omega arith) (λ k e. refl) in
-          let in_time : m ≤ job.start + r = promises.next r is job.start h m (next-ends a job h x m begins attempt) in
-          absurd (has-tick x (job.start + r) t tick (omega (arith, in_time)) follows.0)
+          let attempt =
+              attempt-from a job script inputs ticks clock takes h x x (omega arith)
+                  (λ k e. omega arith) in
+          let in_time = ends-soon h x (lag a x x) m begins (omega arith) (omega arith) attempt in
+          absurd (has-tick x (job.start + a.waits.late + r) t tick (omega (arith, in_time))
+              follows.0)
       all-over (c ∷ later) h x begins follows = over-end later h x c.begun c.ended begins follows.0 (all-over later) follows.1
 
   -- ---- the timeline
@@ -175,7 +201,9 @@ module _ (a : Durations) (job : JobRecord) (b : Bounds) (promises : Promises job
         let is : answer output Stop ≡ answer_of job.schedule (history_at earlier end) = known.stepped (answer output Stop) stepped in
         let stop : (answer_of job.schedule (history_at earlier end)).decision ≡ Stop = ap (λ (y : Answer). y.decision) (sym is) in
         lt_cases (length (history_at earlier end)) b.least (λ _. b.least ≤ length earlier + 1)
-        (λ l. absurd (stop-next (answer_of job.schedule (history_at earlier end)).decision stop (promises.least (history_at earlier end) known.driven.0 l)))
+        (λ l. absurd
+            (stop-next (answer_of job.schedule (history_at earlier end)).decision stop
+                (promises.least (history_at earlier end) known.driven.driven l)))
         (λ l. let count = known.count in omega (arith, count, l))
 
     -- the next attempt is due at most `longest` later
@@ -187,7 +215,8 @@ module _ (a : Durations) (job : JobRecord) (b : Bounds) (promises : Promises job
         let next : (answer_of job.schedule (history_at earlier end)).decision ≡ Next x = ap (λ (y : Answer). y.decision) (sym is) in
         let count : length (history_at earlier end) ≡ length earlier + 1 = known.count in
         wait-within end.at x b.longest (answer_of job.schedule (history_at earlier end)).decision next
-        (promises.longest (history_at earlier end) known.driven.0 (omega (arith, count, seen)))
+        ((bounds-waits job.schedule a b never promises).longest (history_at earlier end)
+            known.driven.driven (omega (arith, count, seen)))
 
     pub within-bounds : IsWithin b attempts
     within-bounds =
@@ -201,11 +230,15 @@ module _ (a : Durations) (job : JobRecord) (b : Bounds) (promises : Promises job
           total = λ t is. let fit = all-waits-fit script inputs ticks clock takes due ending t is attempts [] job.start refl all in omega (arith, fit);
         }
 
-    pub ends-in-time : EndsInTime b ticks job.start attempts (timeline_of job ticks).ending
+    pub ends-in-time : EndsInTime b ticks (job.start + a.waits.late) attempts
+        (timeline_of job ticks).ending
     ends-in-time = record {
       ends = λ r is earlier end e. (
           let known = known-end a job script inputs ticks clock takes earlier end e in
-          promises.run r is (history_at earlier end) known.driven.0 job.start known.driven.1);
+          let run = known.driven in
+          let within = promises.run r is (history_at earlier end) run.driven run.begun run.first in
+          let soon = run.soon in
+          omega (arith, within, soon));
       over = λ r t is tick. all-over script inputs ticks clock takes (timeline_of job ticks).due (timeline_of job ticks).ending r t is tick
           attempts [] job.start refl (whole a job script inputs ticks clock takes);
     }

@@ -1,9 +1,9 @@
 //! What the bounds of a schedule say about the jobs that have this schedule.
 //!
 //! Every history of a job's timeline is one that a driver can make. So what `zs_bounds::bounds`
-//! promises holds for the job, on every clock and for every script. A longest run holds for clocks
-//! that tick each millisecond. There is nothing to call: the
-//! functions are laws, and their contracts are what they say.
+//! promises holds for the job, on every clock and for every script. On a coarse clock the driver is
+//! late by as much as ticks are apart. There is nothing to call: the functions are laws, and their
+//! contracts are what they say.
 //!
 //! Begin with `specs/JobBounds.antt`.
 #![tactic(auto)]

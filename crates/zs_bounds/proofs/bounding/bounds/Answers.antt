@@ -15,5 +15,5 @@ returns-clause-promises c =
     let state : node_state c.in_ok-node.node ≡ first_state s = made.state ∙ ap first_state term in
     let decides : c.in_ok-node.first.1 ≡ (first_range s).decision =
     ap (λ (r : AnswerRange). r.decision) made.first ∙ ap (λ (t : Schedule). (first_range t).decision) same in
-    result-promises s (node_schedule c.in_ok-node.node) c.args.durations c.args.steps (node_state c.in_ok-node.node) c.in_ok-node.first.1 c.bounds_from.result
+    result-promises s (node_schedule c.in_ok-node.node) c.args.driver c.args.steps (node_state c.in_ok-node.node) c.in_ok-node.first.1 c.bounds_from.result
     same state decides c.term.ensures.schedule.factors c.bounds_from.ensures.value

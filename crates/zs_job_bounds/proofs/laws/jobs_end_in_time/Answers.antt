@@ -4,8 +4,8 @@ use Rattle.zs_job_bounds.proofs.Within.{ends-in-time}
 use Rattle.zs_job_bounds.proofs.laws.jobs_end_in_time.Goals as goal
 
 pub returns-clause-promised : goal.returns-clause-promised
-returns-clause-promised c job ticks script inputs clock d takes b promises = ends-in-time d job b promises script inputs ticks clock takes
+returns-clause-promised c job ticks script inputs clock d takes b promises = ends-in-time d job b takes.waits promises script inputs ticks clock takes
 
 pub returns-clause-computed : goal.returns-clause-computed
 returns-clause-computed c job ticks script inputs clock d takes steps factors =
-    ends-in-time d job (bounds_of job.schedule d steps) (bounds_of-promises job.schedule d steps factors) script inputs ticks clock takes
+    ends-in-time d job (bounds_of job.schedule d steps) takes.waits (bounds_of-promises job.schedule d steps factors) script inputs ticks clock takes
