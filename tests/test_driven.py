@@ -1,0 +1,198 @@
+"""What zsched-bounds prints of small policies, against everything that a driver can do with them: each duration of an
+attempt, each wait, and each input on which a test may depend. No history may leave the bounds, and most bounds must be
+reached exactly."""
+import collections
+import contextlib
+import json
+import random
+import re
+
+import generator
+import pytest
+import reference
+from support import run
+
+POLICIES = 400      # of each kind
+# The most steps of a history, and about how much is looked at of a policy: those that have more aren't counted.
+STEPS, WORK, LAST = 40, 60000, reference.LAST_TICK
+# The least and the most percentage of waits, how late an attempt may begin, and the longest wait that is asked for.
+EXACT = (100, 100, 0, 0)
+SPREAD = [(0, 100, 0, 0), (50, 100, 0, 0), (80, 120, 0, 0), (50, 150, 1, 0), (100, 100, 3, 0), (100, 100, 0, 7),
+          (33, 67, 2, 5)]
+ATTEMPTS = [(1, 1), (1, 3), (2, 6), (1, 8), (3, 12)]
+
+
+def leaf(s, state, m, i):
+    """The result of a leaf at its next step, at moment m with input i. A state has the number of steps, the moment of
+    the first, and the next moment. None is that before the first step."""
+    n, first, before = state or (0, m, None)
+    n += 1
+    match s:
+        case "recurs", k:
+            out, then = n - 1, m if n - 1 < k else None
+        case "spaced", d:
+            out, then = n - 1, m + d
+        case "fixed", p:
+            is_behind = before is not None and (m > before + p or p == 0)
+            out, then = n - 1, m if is_behind else m + p - (m - first) % (p or 1)
+        case "windowed", p:
+            out, then = n - 1, m + p - (m - first) % p
+        case "exponential", b, f:
+            out = b * f ** (n - 1)
+            then = m + out
+        case "fibonacci", o:
+            out = o * reference.fibonacci(n)
+            then = m + out
+        case "linear", b:
+            out, then = b * n, m + b * n
+        case _:
+            out, then = {"forever": n - 1, "identity": i, "elapsed": m - first}[s[0]], m
+    then = then if then is None else reference.sat(then)
+    return reference.sat(out), then, (n, first, then if s[0] == "fixed" else None)
+
+
+def step(s, state, m, i):
+    """The output and the next moment of a schedule at its next step, or None if it is done, and the next state. Of a
+    list only the length can be read."""
+    match s:
+        case ("&&" | "||") as operator, a, b:
+            (x, v, p), (y, w, q) = (step(part, before, m, i) for part, before in zip((a, b), state or (None, None)))
+            going = [it for it in (v, w) if it is not None]
+            is_done = len(going) < (2 if operator == "&&" else 1)
+            return ("Pair", x, y), None if is_done else (max if operator == "&&" else min)(going), (p, q)
+        case "andThenEither", a, b:
+            is_second, inner = state or (False, None)
+            if not is_second:
+                x, then, after = step(a, inner, m, i)
+                if then is not None:
+                    return ("Left", x), then, (False, after)
+            x, then, after = step(b, inner if is_second else None, m, i)
+            return ("Right", x), then, (True, after)
+        case "resetWhen", part, *test:
+            result = step(part, state, m, i)
+            return step(part, None, m, i) if reference.passes(result[0], *test) else result
+        case "collectAll", part:
+            inner, count = state or (None, 0)
+            _, then, after = step(part, inner, m, i)
+            return range(count), then, (after, count + (then is not None))
+        case "map", part, function, k:
+            x, then, after = step(part, state, m, i)
+            return reference.mapped(function, k, x), then, after
+        case ("whileInput" | "whileOutput") as form, part, pick, test, k:
+            x, then, after = step(part, state, m, i)
+            passes = reference.COMPARISONS[test](i, k) if form == "whileInput" else reference.passes(x, pick, test, k)
+            return x, then if passes else None, after
+    return leaf(s, state, m, i)
+
+
+class Reached:
+    """What all histories of a driver reach: the least and the most steps, the longest wait, all waits, the longest run.
+    A history begins with a step at moment 0, which is the end of the first attempt."""
+
+    def __init__(self, s, inputs, driver):
+        (self.shortest, self.longest), (self.low, self.high, self.late, self.asked) = driver
+        self.least, self.most, self.wait, self.total, self.run = None, 0, 0, 0, self.longest
+        # Steps of one state at one moment: the longest waits before it, and the number of histories up to it.
+        self.histories, self.work, self.open = 0, 0, {(None, 0): (0, 1)}
+        while self.open and self.most < STEPS and self.work < WORK:
+            before, self.open, self.most = self.open, {}, self.most + 1
+            for (state, m), (waited, histories) in before.items():
+                for i in inputs:
+                    _, then, after = step(s, state, m, i)
+                    self.work, self.histories = self.work + 10, self.histories + histories
+                    if then is None:
+                        self.least = self.least or self.most
+                        self.see(m, waited, 0, 0)
+                    else:
+                        self.go_on(after, m, then - m, waited, histories)
+
+    def see(self, m, waited, wait, attempt):
+        self.wait, self.total = max(self.wait, wait), max(self.total, waited + wait)
+        self.run = max(self.run, self.longest + m + wait + attempt)
+
+    def go_on(self, after, m, wait, waited, histories):
+        """Adds each moment of the next step."""
+        least, most = wait * self.low // 100, max(-(-wait * self.high // 100), self.asked) + self.late
+        self.see(m, waited, most, self.longest)
+        times = range(least + self.shortest, min(most + self.longest, LAST - m) + 1)
+        self.work += len(times)
+        for time in times if self.work < WORK else times[-1:]:
+            longest, number = self.open.get((after, m + time), (0, 0))
+            waits = waited + min(most, time - self.shortest)
+            self.open[after, m + time] = max(longest, waits), number + histories
+
+
+def real_policy(chance):
+    """A policy as services have them: waits, a limit of time or of attempts, and what is retried."""
+    waits = chance.choice(["spaced(A)", "linear(A)", "exponential(A)", "fibonacci(A)", "(exponential(A) || spaced(B))",
+                           "(linear(A) || spaced(B))", "exponential(A, 3)", "fixed(B)"])
+    text = chance.choice(["(W && elapsed.whileOutput(< L))", "(W && elapsed).whileOutput(_2 < L)", "(W && recurs(N))",
+                          "(elapsed && W).whileOutput(_1 <= L)", "((W && recurs(N)) && elapsed.whileOutput(< L))"])
+    text += chance.choice(["", "", ".map(_1)", ".whileInput(>= 5)"])
+    numbers = {"A": range(1, 6), "B": range(3, 13), "L": range(3, 31), "N": range(6)}
+    return re.sub("[ABLN]", lambda it: str(chance.choice(numbers[it[0]])), text.replace("W", waits))
+
+
+def random_policy(chance):
+    """A policy of any form, of small numbers."""
+    text = generator.made_term(chance, chance.choice([2, 3, 4, 5, 6]))[0]
+    text = re.sub(r"(?<![\w_])\d+", lambda _: str(chance.choice(range(9))), text)
+    return chance.choice([text, f"({text} && recurs({chance.choice(range(5))}))",
+                          f"({text} && elapsed.whileOutput(< {chance.choice(range(3, 21))}))"])
+
+
+def edges(text):
+    """The inputs on which the tests of a policy may depend."""
+    ks = map(int, re.findall(r"[<=>] *(\d+)", text) if "nput" in text or "identity" in text else [])
+    return sorted({0, *(max(0, k + d) for k in ks for d in (-1, 0, 1))})
+
+
+def policies(make, has_waits):
+    """Policies by what their driver may do: durations of attempts and waits."""
+    chance, made = random.Random(2026), collections.defaultdict(list)
+    for _ in range(POLICIES):
+        driver = chance.choice(ATTEMPTS), chance.choice(SPREAD) if has_waits else EXACT
+        text = make(chance)
+        with contextlib.suppress(reference.Fault):
+            made[driver].append((text, reference.read_schedule(text.encode())))
+    return made
+
+
+def said(program, driver, texts):
+    """What zsched-bounds prints of policies and a driver, as `Reached` has it."""
+    (shortest, longest), (low, high, late, asked) = driver
+    options = ["--attempt", f"{shortest}ms..{longest}ms", "--steps", str(STEPS)]
+    if driver[1] != EXACT:
+        options += ["--wait", f"{low}..{high}%", "--late", f"{late}ms", "--asked", f"{asked}ms"]
+    status, output, errors = run([program, *options], "\n".join(texts).encode() + b"\n")
+    assert (status, errors) == (0, b"")
+    for line in map(json.loads, output.splitlines()):
+        yield *line["attempts"].values(), *(line[it] for it in ("longest_wait", "total_wait", "longest_run"))
+
+
+# Of each kind: how it is made, whether drivers have other waits than the schedule's, and what share of the policies
+# reaches the least and the most steps, the longest wait, all waits and the longest run, in percent.
+FLOORS = {"real": (real_policy, False, (99, 92, 100, 91, 90)),
+          "real_with_waits": (real_policy, True, (99, 94, 100, 92, 91)),
+          "random": (random_policy, False, (97, 96, 99, 93, 93)),
+          "random_with_waits": (random_policy, True, (99, 96, 98, 93, 90))}
+
+
+@pytest.mark.parametrize("kind", FLOORS)
+def test_bounds_hold_for_all_that_a_driver_does_and_most_are_reached(kind, bounds):
+    make, has_waits, floors = FLOORS[kind]
+    met, had, histories = [0] * 5, 0, 0
+    for driver, made in policies(make, has_waits).items():
+        for (text, s), numbers in zip(made, said(bounds, driver, [text for text, _ in made]), strict=True):
+            it = Reached(s, edges(text), driver)
+            histories += it.histories
+            least, *greatest = numbers
+            reached = it.most, it.wait, it.total, it.run
+            where = text, driver, numbers, it.least, reached
+            assert it.least is None or least <= it.least, where
+            assert all(bound is None or x <= bound for x, bound in zip(reached, greatest)), where
+            if not it.open:
+                had += 1
+                met = [n + (x == bound) for n, x, bound in zip(met, (it.least, *reached), numbers)]
+    assert had >= POLICIES // 2 and histories > 10 ** 6, (had, histories)
+    assert all(100 * n >= floor * had for n, floor in zip(met, floors)), (met, had)
