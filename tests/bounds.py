@@ -1,8 +1,8 @@
 """What zsched-bounds prints for a schedule, computed a second time from docs/SEMANTICS.md, as a run over intervals.
 
 Each number of a schedule's state is an interval: its least and its greatest value. A history is driven: moments are at
-most LAST, and an attempt begins at the schedule's next moment. It takes the least duration or more, which is 1 ms or
-more, and at most the greatest one, if there is one."""
+most LAST, and after a step the driver waits, by the schedule's wait and its own options. Then an attempt takes the
+least duration or more, which is 1 ms or more, and at most the greatest one, if there is one."""
 import random
 import re
 
@@ -11,7 +11,15 @@ import reference
 from reference import sat
 
 MOST, LAST = 2 ** 64 - 1, 999999999999999
-STEPS, ANY = 20000, (1, None)
+# The steps that are looked at by default, and of large schedules so many that the steps of all nodes are at most WORK.
+STEPS, WORK, ANY = 20000, 1200000, (1, None)
+# The waits of a driver: the least and the most percentage of the schedule's, how late an attempt may begin (MOST: by
+# any time), and the longest wait that is honoured on request.
+EXACT = (100, 100, 0, 0)
+WAITS = [EXACT, EXACT, (0, 100, 0, 0), (80, 120, 0, 0), (50, 150, 3, 0), (100, 100, 50, 900), (33, 67, 0, 5),
+         (100, 100, MOST, 0), (0, 0, 0, 7)]
+# The place in outputs that a test reads: 1 and 2 lead into pairs, 0 into a list.
+PLACES = {None: [], "_1": [1], "_2": [2], "size": [0]}
 # The least and the greatest duration of attempts.
 DURATIONS = [ANY, ANY, (1, 1), (1, 8), (2, 3), (1, 5001), (20, 5020)]
 # The most steps of histories of small policies, and the most histories.
@@ -156,25 +164,108 @@ def never_ends(s):
     return s[0] not in ("recurs", "whileInput", "whileOutput")
 
 
-def bounds(s, durations=ANY, most=STEPS):
-    """The bounds of a schedule and durations of attempts, by at most this number of steps, as zsched-bounds prints
-    them."""
+def lower(*limits):
+    """The lowest of the limits that there are."""
+    return min((it for it in limits if it is not None), default=None)
+
+
+def all_limited(*limits):
+    """The highest limit, if all are there."""
+    return None if None in limits else max(limits)
+
+
+def within(x, y):
+    """The greater of two numbers, if the second has 64 bits."""
+    return max(x, y) if y <= MOST else None
+
+
+def has_time(s, place):
+    """Whether the outputs of a schedule have the time since its first step at a place: 1 and 2 lead into pairs."""
+    match s, place:
+        case ["elapsed"], []:
+            return True
+        case ["&&" | "||", *parts], [1 | 2 as part, *rest]:
+            return has_time(parts[part - 1], rest)
+        case ["whileInput" | "whileOutput", part, *_], _:
+            return has_time(part, place)
+        case ["map", part, "_1" | "_2" as pick, _], _:
+            return has_time(part, [int(pick[1]), *place])
+    return False
+
+
+def time_limit(s):
+    """A limit of the time from the first step up to one that goes on, by the form of a schedule, or None."""
+    match s:
+        case "&&", a, b:
+            return lower(time_limit(a), time_limit(b))
+        case "||", a, b:
+            return all_limited(time_limit(a), time_limit(b))
+        case "whileOutput", part, pick, comparison, k if has_time(part, PLACES[pick]):
+            return lower(time_limit(part), {"<": max(k - 1, 0), "<=": k, "=": k}.get(comparison))
+        case ["whileInput" | "whileOutput" | "map" | "collectAll", part, *_]:
+            return time_limit(part)
+    return None
+
+
+def wait_limit(s):
+    """A limit of all waits, by the form of a schedule, or None."""
+    match s:
+        case ["exponential" | "fibonacci" | "linear", *_]:
+            return None
+        case ["spaced" | "fixed" | "windowed", p]:
+            return p
+        case "||", a, b if never_ends(a) or never_ends(b):
+            return lower(*(wait_limit(it) for it in (a, b) if never_ends(it)))
+        case ["&&" | "||" | "andThenEither", a, b]:
+            return all_limited(wait_limit(a), wait_limit(b))
+        case [_, [*_] as part, *_]:
+            return wait_limit(part)
+    return 0
+
+
+def driven(waits, low, high):
+    """The least and the longest wait of a driver if the schedule waits from `low` to `high`."""
+    least, most, late, asked = waits
+    return low * least // 100, sat(max(-(-high * most // 100), asked) + late)
+
+
+def weight(s):
+    """The number of nodes, where `resetWhen` counts its part twice."""
+    return 1 + (1 + (s[0] == "resetWhen")) * sum(weight(it) for it in s[1:] if isinstance(it, tuple))
+
+
+def bounds(s, durations=ANY, most=None, waits=EXACT):
+    """The bounds of a schedule, durations of attempts and waits of a driver, by at most this number of steps, as
+    zsched-bounds prints them."""
     state, d, passed, least, longest, total, run = None, None, 0, 1, 0, 0, durations[1]
+    limit, most = time_limit(s), most or max(1, min(STEPS, WORK // weight(s)))
     for n in range(1, most + 1):
         (_, wait, may_stop), state = step(s, state, d)
         least += least == n and not may_stop
+        wait = wait and driven(waits, *wait)
+        # A step that goes on is within the limit, and so are the waits and the n - 1 attempts before it.
+        before = None if limit is None else max(0, limit - durations[0] * (n - 1))
+        if total is not None:
+            total = within(total, lower(before, total) + (wait[1] if wait else 0))
         if wait:
-            longest, total = max(longest, wait[1]), total + wait[1]
-            run = run and run + wait[1] + durations[1]
+            longest = max(longest, wait[1])
+            if run:
+                begins = run if limit is None else min(run, durations[1] + limit)
+                run = within(run, begins + wait[1] + durations[1])
             d = wait[0] + durations[0], wait[1] + (durations[1] or LAST)
             passed += d[0]
         if wait is None or passed > LAST:
             break
-    is_cut = wait is not None and passed <= LAST
-    total, run = (None if is_cut or it is None or it > MOST else it for it in (total, run))
-    return {"attempt": dict(zip(("least", "most"), durations)), "attempts": {
-        "least": least, "most": n if wait is None else None}, "never_gives_up": never_ends(s),
-        "longest_wait": longest, "total_wait": total, "longest_run": run, "steps_seen": n}
+    if wait is not None and passed <= LAST:
+        # More steps may follow.
+        last = wait_limit(s)
+        total = None if None in (limit, last) else within(0, limit + driven(waits, last, last)[1])
+        run = None if None in (durations[1], total) else within(0, total + 2 * durations[1])
+    return {"attempt": dict(zip(("least", "most"), durations)),
+            "wait": dict(zip(("least_percent", "most_percent", "late", "asked"),
+                             [None if it == MOST else it for it in waits])),
+            "attempts": {"least": least, "most": n if wait is None else None}, "never_gives_up": never_ends(s),
+            "longest_wait": longest, "total_wait": total, "longest_run": run, "steps_seen": n}
 
 
 def policy(chance):

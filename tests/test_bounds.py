@@ -1,6 +1,6 @@
-"""What zsched-bounds prints for random policies and durations: it is what the run over intervals in tests/bounds.py
-has, and no driven history leaves it. `ZSCHED_LONG=1 pytest tests/test_bounds.py -n 3 --examples 50` tries 100,000
-policies, each by all steps."""
+"""What zsched-bounds prints for random policies, durations of attempts and waits of drivers: it is what the run over
+intervals in tests/bounds.py has, and no driven history leaves it.
+`ZSCHED_LONG=1 pytest tests/test_bounds.py -n 3 --examples 50` tries 100,000 policies, each by all steps."""
 import json
 import os
 import random
@@ -19,7 +19,16 @@ HISTORIES, HISTORY_STEPS = 3, 40
 INPUTS = [0, 1, 2, 3, 4, 5, 7, 404, 503, intervals.MOST]
 
 
-def follow(chance, s, b):
+def options(durations, waits):
+    """The options of zsched-bounds for durations of attempts and waits of a driver."""
+    least, most, late, asked = waits
+    return [*([] if durations[1] is None else ["--attempt", "{}ms..{}ms".format(*durations)]),
+            *([] if waits == intervals.EXACT else [
+                "--wait", f"{least}..{most}%", "--asked", f"{asked}ms",
+                "--late", "any" if late == intervals.MOST else f"{late}ms"])]
+
+
+def follow(chance, s, b, waits):
     """Asserts that a random driven history stays within bounds."""
     first = moment = chance.choice([0, 1, 5, 1000, intervals.LAST // 2])
     pairs, memo, waited, (shortest, longest), (least, most) = [], {}, 0, b["attempt"].values(), b["attempts"].values()
@@ -28,15 +37,18 @@ def follow(chance, s, b):
     for n in range(1, min(HISTORY_STEPS, b["steps_seen"]) + 1):
         pairs.append((moment, chance.choice(INPUTS)))
         _, x = reference.step(s, reference.History(pairs, memo, 0, n))
-        # The first attempt, and the one that this step lets begin, take as long as they may.
-        run = (longest or 0) + (moment if x is None else x + (longest or 0)) - first
+        low, high = intervals.driven(waits, *[0 if x is None else x - moment] * 2)
+        # The first attempt, the wait, and the attempt that this step lets begin take as long as they may.
+        run = (longest or 0) + moment - first + (0 if x is None else high + (longest or 0))
         assert b["longest_run"] is None or run <= b["longest_run"]
         if x is None:
             assert n >= least and not b["never_gives_up"]
             return
-        waited += x - moment
-        assert n != most and x - moment <= b["longest_wait"] and (b["total_wait"] is None or waited <= b["total_wait"])
-        moment = x + chance.choice(times)
+        assert n != most and high <= b["longest_wait"]
+        assert b["total_wait"] is None or waited + high <= b["total_wait"]
+        wait = chance.choice([low, low, high, (low + high) // 2])
+        waited += wait
+        moment += wait + chance.choice(times)
         if moment > intervals.LAST:
             return
 
@@ -44,22 +56,22 @@ def follow(chance, s, b):
 @pytest.mark.parametrize("chunk", generator.chunks(2000))
 def test_no_driven_history_leaves_the_bounds_and_the_interval_run_has_them(chunk, bounds):
     def holds(words):
-        text, is_long, durations = words
+        text, is_long, durations, waits = words
         try:
             s = reference.read_schedule(text.encode())
         except reference.Fault:     # of many `resetWhen`
             return
         steps = intervals.STEPS if is_long else SHORT
-        options = [] if durations[1] is None else ["--attempt", "{}ms..{}ms".format(*durations)]
-        status, output, errors = run([bounds, *options, "--steps", str(steps)], f"{text}\n".encode())
+        status, output, errors = run([bounds, *options(durations, waits), "--steps", str(steps)], f"{text}\n".encode())
         assert (status, errors) == (0, b"")
         line = json.loads(output)
         assert reference.read_schedule(line.pop("policy").encode()) == s
-        assert line == intervals.bounds(s, durations, steps)
+        assert line == intervals.bounds(s, durations, steps, waits)
         for k in range(HISTORIES):
-            follow(random.Random(f"{text} {k}"), s, line)
+            follow(random.Random(f"{text} {k}"), s, line, waits)
     generator.hold(chunk, holds, generator.made(lambda chance: (
-        intervals.policy(chance), generator.seldom(chance, EVERY), chance.choice(intervals.DURATIONS))))
+        intervals.policy(chance), generator.seldom(chance, EVERY), chance.choice(intervals.DURATIONS),
+        chance.choice(intervals.WAITS))))
 
 
 def test_histories_and_bounds_of_small_policies_meet():

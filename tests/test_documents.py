@@ -128,6 +128,8 @@ PROSE = tuple(page for page in PAGES if TOP / "benches" not in page.parents and 
 # A line of docs/POLICIES.md that build/policies prints.
 PRINTED = re.compile(r"^(?:\||- Job ).*$", re.M)
 CODE = tuple(sorted(it for end in ("rt", "antt") for it in TOP.glob(f"crates/*/[sp]*/**/*.{end}")))
+# How a line of prose begins in a file of each kind.
+BEGINS = {".md": "", ".rt": r"\s*//[/!]? ?", ".antt": r"\s*-- ?"}
 WIDTH, MOST_WORDS = 100, 28000
 # What has another meaning here than elsewhere or none, what to write instead, and how often the first is right in all
 # pages and in all comments.
@@ -137,7 +139,7 @@ WORDS = [line.split("\t") for line in (TOP / "tests" / "words.tsv").read_text().
 def prose(files):
     """The lines of pages and the comments of code, without samples: the place, the line, and its text."""
     for file in files:
-        is_sample, form = False, re.compile(r"(.*)" if file.suffix == ".md" else r"\s*(?://[/!]?|--) ?(.*)")
+        is_sample, form = False, re.compile(BEGINS[file.suffix] + "(.*)")
         for number, line in enumerate(map(form.fullmatch, file.read_text().splitlines()), 1):
             is_sample ^= bool(line and line[1].startswith("```"))
             if line and not is_sample:

@@ -2,3 +2,4 @@ pub mod PolicyLemmas
 pub mod TextLemmas
 pub mod Endings
 pub mod WordLemmas
+pub mod WeightLemmas

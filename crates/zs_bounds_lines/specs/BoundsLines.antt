@@ -1,12 +1,14 @@
 -- What is written for some lines: for each policy a line of JSON with its bounds.
-use Rattle.std.specs.Prelude.{ℕ, List, [], ◌∷◌, ◌++◌, codes, Bool, if◌then◌else◌, Option, Some}
-use Rattle.std.specs.Prelude.{None, Result, Ok, Err}
+use Rattle.std.specs.Prelude.{ℕ, ◌/◌, min, max, nat_lt, List, [], ◌∷◌, ◌++◌, codes, Bool}
+use Rattle.std.specs.Prelude.{if◌then◌else◌, Option, Some, None, Result, Ok, Err}
 use Rattle.std.specs.Fmt.{decimal}
-use Rattle.zs_term.specs.Schedule.{Schedule}
+use Rattle.zs_term.specs.Saturating.{max_moment}
+use Rattle.zs_term.specs.Schedule.{Schedule, weight}
 use Rattle.zs_term.specs.Canonical.{canonical_text}
 use Rattle.zs_bounds.specs.BoundsOf.{bounds_of, never_stops}
 use Rattle.zs_bounds.specs.declared.driver.Driver.{Driver}
 use Rattle.zs_bounds.specs.declared.told.Bounds.{Bounds}
+use Rattle.zs_bounds.specs.declared.waits.Waits.{Waits}
 use Rattle.zs_bounds_lines.specs.Policies.{policy_of}
 use Rattle.zs_bounds_lines.specs.declared.fault.PolicyFault.{PolicyFault}
 use Rattle.zs_bounds_lines.specs.declared.options.Options.{Options}
@@ -25,6 +27,18 @@ abbrev pub range_text : ℕ → Option ℕ → List ℕ
 range_text least most =
     codes "{\"least\":" ++ decimal least ++ codes ",\"most\":" ++ limit_text most ++ codes "}"
 
+-- how late an attempt may begin, unless it may by any time
+abbrev pub late_limit : ℕ → Option ℕ
+late_limit late = if nat_lt late max_moment then Some late else None
+
+-- how a driver waits: the percentages of the schedule's waits, how late an attempt may begin, and
+-- the longest wait that is honoured on request
+abbrev pub waits_text : Waits → List ℕ
+waits_text v =
+    codes "{\"least_percent\":" ++ decimal v.least_percent
+    ++ (codes ",\"most_percent\":" ++ decimal v.most_percent ++ codes ",\"late\":")
+    ++ limit_text (late_limit v.late) ++ (codes ",\"asked\":" ++ decimal v.asked ++ codes "}")
+
 -- the longest wait, all waits, and the longest run
 abbrev pub times_text : Bounds → List ℕ
 times_text b =
@@ -35,18 +49,29 @@ times_text b =
 abbrev pub steps_text : Bounds → List ℕ
 steps_text b = codes ",\"steps_seen\":" ++ decimal b.seen ++ codes "}\n"
 
--- the line of a policy with these durations of attempts, whether it never gives up, and its bounds
+-- the line of a policy with what the driver may do, whether it never gives up, and its bounds
 abbrev pub json_line : List ℕ → Driver → Bool → Bounds → List ℕ
 json_line policy d never b =
     codes "{\"policy\":\"" ++ policy ++ codes "\",\"attempt\":"
-    ++ range_text d.least d.most ++ codes ",\"attempts\":" ++ range_text b.least b.most
+    ++ range_text d.least d.most ++ codes ",\"wait\":" ++ waits_text d.waits
+    ++ codes ",\"attempts\":" ++ range_text b.least b.most
     ++ codes ",\"never_gives_up\":" ++ truth_text never ++ times_text b ++ steps_text b
+
+-- The usual number of steps that are looked at: 1,200,000 divided by the number of nodes, and 1 to
+-- 20,000.
+abbrev pub usual_steps : Schedule → ℕ
+usual_steps s = max 1 (min 20000 (1200000 / weight s))
+
+-- the steps that are looked at at most: the number that is set, or the usual one
+abbrev pub steps_for : Option ℕ → Schedule → ℕ
+steps_for (Some n) s = n
+steps_for None s = usual_steps s
 
 -- the line of a policy, as its canonical spelling, with what is proved of it
 abbrev pub bounds_line : Options → Schedule → List ℕ
 bounds_line options s =
-    json_line (canonical_text s) options.attempt (never_stops s)
-    (bounds_of s options.attempt options.steps)
+    json_line (canonical_text s) options.driver (never_stops s)
+    (bounds_of s options.driver (steps_for options.steps s))
 
 -- what is written for a line: nothing if it has no policy
 abbrev pub line_text : Options → Result (Option Schedule) PolicyFault → Result (List ℕ) PolicyFault

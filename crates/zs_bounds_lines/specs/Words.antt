@@ -4,8 +4,9 @@ use Rattle.std.specs.Prelude.{bytes_eq, nat_le, nat_lt, ◌==◌, ◌&&◌, Bool
 use Rattle.std.specs.Prelude.{if◌then◌else◌, Option, Some, None, option_and_then, Result, Ok, Err}
 use Rattle.std.specs.Io.KnownBytes.{Appends}
 use Rattle.zs_term.specs.Saturating.{max_moment}
-use Rattle.zs_bounds.specs.Driven.{exact_driver, exact_waits}
+use Rattle.zs_bounds.specs.Driven.{exact_driver}
 use Rattle.zs_bounds.specs.declared.driver.Driver.{Driver}
+use Rattle.zs_bounds.specs.declared.waits.Waits.{Waits}
 use Rattle.zs_run.specs.Headline.{Reading, Writing}
 use Rattle.zs_lines.specs.Numbers.{digits_from, number_of}
 use Rattle.zs_bounds_lines.specs.Ending.{Ends}
@@ -14,6 +15,7 @@ use Rattle.zs_bounds_lines.specs.declared.fault.BoundsFault.TheVariants.{Read, L
 use Rattle.zs_bounds_lines.specs.declared.fault.BoundsFault.TheVariants.{Words}
 use Rattle.zs_bounds_lines.specs.declared.fault.OptionFault.{OptionFault}
 use Rattle.zs_bounds_lines.specs.declared.fault.OptionFault.TheVariants.{Unknown, Steps, Attempt}
+use Rattle.zs_bounds_lines.specs.declared.fault.OptionFault.TheVariants.{Wait, Late, Asked}
 use Rattle.zs_bounds_lines.specs.declared.options.Options.{Options}
 use Rattle.zs_bounds_lines.specs.declared.program.TheConstants.{HELP, VERSION}
 use Rattle.zs_bounds_lines.specs.declared.words.Request.{Request}
@@ -48,45 +50,97 @@ dots_from at [] = None
 dots_from at (b ∷ []) = None
 dots_from at (b ∷ (c ∷ bs)) = if b == 46 && c == 46 then Some at else dots_from (at + 1) (c ∷ bs)
 
--- durations from a least to a most one, of 1 ms or more
-abbrev pub durations_between : Option ℕ → Option ℕ → Option Driver
-durations_between None most = None
-durations_between (Some least) None = None
-durations_between (Some least) (Some most) =
-    if nat_le 1 least && nat_le least most then
-    Some (record { least = least; most = Some most; waits = exact_waits })
-    else None
+-- a least and a most number, in order, none of them below the floor
+abbrev pub between : ℕ → Option ℕ → Option ℕ → Option (ℕ × ℕ)
+between floor None most = None
+between floor (Some least) None = None
+between floor (Some least) (Some most) =
+    if nat_le floor least && nat_le least most then Some (least, most) else None
 
--- the durations that a text is, by the place of its dots; without dots it is the most
-abbrev pub durations_at : List ℕ → Option ℕ → Option Driver
-durations_at text None = durations_between (Some 1) (duration_of text)
+-- durations of 1 ms or more, by the place of the dots in a text; without dots it is the most
+abbrev pub durations_at : List ℕ → Option ℕ → Option (ℕ × ℕ)
+durations_at text None = between 1 (Some 1) (duration_of text)
 durations_at text (Some at) =
-    durations_between (duration_of (take at text)) (duration_of (drop (at + 2) text))
+    between 1 (duration_of (take at text)) (duration_of (drop (at + 2) text))
 
--- the durations that a text is, as `5s` or `20ms..5s`
-unfoldable pub durations_of : List ℕ → Option Driver
+-- the least and the most duration that a text is, as `5s` or `20ms..5s`
+unfoldable pub durations_of : List ℕ → Option (ℕ × ℕ)
 durations_of text = durations_at text (dots_from 0 text)
 
--- the options if no word names others
+-- the number of the digits at the front of a text, if a percent sign alone is after them
+abbrev pub before_sign : List ℕ → ℕ × ℕ → Option ℕ
+before_sign text found =
+    if nat_lt 0 found.1 && bytes_eq (drop found.1 text) (codes "%") then Some found.0 else None
+
+-- the number that a text is, before a percent sign
+abbrev pub percent_of : List ℕ → Option ℕ
+percent_of text = option_and_then (before_sign text) (digits_from 0 0 text)
+
+-- percentages, by the place of the dots in a text
+abbrev pub percents_at : List ℕ → Option ℕ → Option (ℕ × ℕ)
+percents_at text None = None
+percents_at text (Some at) =
+    between 0 (number_of (take at text)) (percent_of (drop (at + 2) text))
+
+-- the least and the most percentage that a text is, as `80..120%`
+unfoldable pub percents_of : List ℕ → Option (ℕ × ℕ)
+percents_of text = percents_at text (dots_from 0 text)
+
+-- how late an attempt may begin, by a text: a duration, or `any`, the greatest number
+abbrev pub late_of : List ℕ → Option ℕ
+late_of text = if bytes_eq text (codes "any") then Some max_moment else duration_of text
+
+-- the options if no word names others: attempts of 1 ms or more, which begin at the end of the
+-- schedule's waits, and the usual number of steps
 abbrev pub usual_options : Options
-usual_options = record { attempt = exact_driver; steps = 20000 }
+usual_options = record { driver = exact_driver; steps = None }
 
--- the options with this number of steps
-abbrev pub with_steps : Option ℕ → Options → Result Options OptionFault
-with_steps None options = Err Steps
-with_steps (Some n) options = Ok (record { attempt = options.attempt; steps = n })
+-- the options with these waits of the driver
+abbrev pub with_waits : Options → Waits → Options
+with_waits options waits = record options { driver = record options.driver { waits = waits } }
 
--- the options with these durations of attempts
-abbrev pub with_attempt : Option Driver → Options → Result Options OptionFault
-with_attempt None options = Err Attempt
-with_attempt (Some attempt) options = Ok (record { attempt = attempt; steps = options.steps })
+-- `--attempt`: the least and the most duration of attempts
+abbrev pub with_attempt : Options → ℕ × ℕ → Options
+with_attempt options found =
+    record options { driver = record options.driver { least = found.0; most = Some found.1 } }
+
+-- `--wait`: the least and the most percentage of the schedule's waits
+abbrev pub with_wait : Options → ℕ × ℕ → Options
+with_wait options found = with_waits options
+    (record options.driver.waits { least_percent = found.0; most_percent = found.1 })
+
+-- `--late`: how much later than at the end of its wait an attempt may begin
+abbrev pub with_late : Options → ℕ → Options
+with_late options late = with_waits options (record options.driver.waits { late = late })
+
+-- `--asked`: the longest wait that is honoured on request
+abbrev pub with_asked : Options → ℕ → Options
+with_asked options asked = with_waits options (record options.driver.waits { asked = asked })
+
+-- `--steps`: the number of steps that are looked at at most
+abbrev pub with_steps : Options → ℕ → Options
+with_steps options n = record options { steps = Some n }
+
+-- the options that a value sets, or the fault if it has another form
+abbrev pub or_fault : {A : Type 0} → OptionFault → (A → Options) → Option A
+    → Result Options OptionFault
+or_fault fault set None = Err fault
+or_fault fault set (Some value) = Ok (set value)
 
 -- the options with one more, by its name and its value
 unfoldable pub with_option : List ℕ → List ℕ → Options → Result Options OptionFault
 with_option name value options =
-    if bytes_eq name (codes "--steps") then with_steps (number_of value) options
-    else (if bytes_eq name (codes "--attempt") then with_attempt (durations_of value) options
-    else Err Unknown)
+    if bytes_eq name (codes "--attempt")
+    then or_fault Attempt (with_attempt options) (durations_of value)
+    else (if bytes_eq name (codes "--wait")
+    then or_fault Wait (with_wait options) (percents_of value)
+    else (if bytes_eq name (codes "--late")
+    then or_fault Late (with_late options) (late_of value)
+    else (if bytes_eq name (codes "--asked")
+    then or_fault Asked (with_asked options) (duration_of value)
+    else (if bytes_eq name (codes "--steps")
+    then or_fault Steps (with_steps options) (number_of value)
+    else Err Unknown))))
 
 -- a request that a word is alone, or the one that follows from the words after it
 unfoldable pub unless_alone : List ℕ → Result Request OptionFault → Result Request OptionFault

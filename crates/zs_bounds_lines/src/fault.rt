@@ -30,6 +30,15 @@ pub enum OptionFault {
     /// The value of `--attempt` is missing, or isn't a duration or two of them in order.
     #[error("--attempt needs durations, as 5s or 20ms..5s")]
     Attempt,
+    /// The value of `--wait` is missing, or isn't two percentages in order.
+    #[error("--wait needs two percentages, as 80..120%")]
+    Wait,
+    /// The value of `--late` is missing, or is neither a duration nor `any`.
+    #[error("--late needs a duration, as 50ms, or any")]
+    Late,
+    /// The value of `--asked` is missing, or isn't a duration.
+    #[error("--asked needs a duration, as 30s")]
+    Asked,
 }
 
 /// Why a run stopped. Whole lines were written, unless the writer failed.

@@ -2,11 +2,12 @@
 ghost use Rattle.std.specs.Prelude.{◌≡◌, OnOk, IfOk, string_bytes};
 ghost use Rattle.zs_term.specs.OutputText.{Adds};
 ghost use Rattle.zs_term.specs.Schedule.{schedule_of};
-ghost use Rattle.zs_bounds_lines.specs.BoundsLines.{bounds_line, json_line, limit_text, range_text, times_text, truth_text};
+ghost use Rattle.zs_bounds_lines.specs.BoundsLines.{bounds_line, json_line, late_limit, limit_text, range_text, times_text, truth_text, waits_text};
 
 use crate::options::Options;
+use crate::work::steps_for;
 use std::alloc::{AllocError, Global};
-use zs_bounds::{Bounds, Driver, bounds, never_gives_up};
+use zs_bounds::{Bounds, Driver, Waits, bounds, never_gives_up};
 use zs_term::{Checked, write};
 
 // Appends a number, or null.
@@ -40,6 +41,25 @@ fn push_range(text: &mut String, least: u64, most: Option<u64>) -> Result<(), Al
     Ok(())
 }
 
+// How late an attempt may begin, unless it may by any time.
+fn late_limit(late: u64) -> Option<u64>
+    ensures value { result ≡ late_limit late }
+{
+    if late < u64::MAX { Some(late) } else { None }
+}
+
+// Appends how a driver waits.
+fn push_waits(text: &mut String, waits: Waits) -> Result<(), AllocError>
+    ensures text { OnOk result (Adds text.old text.new (waits_text waits)) }
+{
+    let (least, most, asked) = (waits.least_percent, waits.most_percent, waits.asked);
+    write!(text, "{{\"least_percent\":{least}")?;
+    write!(text, ",\"most_percent\":{most},\"late\":")?;
+    push_limit(text, late_limit(waits.late))?;
+    write!(text, ",\"asked\":{asked}}}")?;
+    Ok(())
+}
+
 // Appends the longest wait, all waits, and the longest run.
 fn push_times(text: &mut String, told: &Bounds) -> Result<(), AllocError>
     ensures text { OnOk result (Adds text.old text.new (times_text told.now)) }
@@ -52,20 +72,22 @@ fn push_times(text: &mut String, told: &Bounds) -> Result<(), AllocError>
     Ok(())
 }
 
-// Appends the line of a policy with these durations of attempts, whether it never gives up, and
-// its bounds.
+// Appends the line of a policy with what the driver may do, whether it never gives up, and its
+// bounds.
 fn push_line(
     text: &mut String,
     policy: &str,
-    attempt: Driver,
+    driver: Driver,
     endless: bool,
     told: &Bounds,
 ) -> Result<(), AllocError>
     ensures text { OnOk result
-        (Adds text.old text.new (json_line policy.now attempt endless told.now)) }
+        (Adds text.old text.new (json_line policy.now driver endless told.now)) }
 {
     write!(text, "{{\"policy\":\"{policy}\",\"attempt\":")?;
-    push_range(text, attempt.least, attempt.most)?;
+    push_range(text, driver.least, driver.most)?;
+    text.push_str(",\"wait\":")?;
+    push_waits(text, driver.waits)?;
     text.push_str(",\"attempts\":")?;
     push_range(text, told.least, told.most)?;
     text.push_str(",\"never_gives_up\":")?;
@@ -85,16 +107,11 @@ pub(crate) fn line_of(
     ensures text { IfOk result (λ text.
         string_bytes text ≡ bounds_line options (schedule_of policy.now)) }
 {
-    let told = bounds(alloc, policy, options.attempt, options.steps)?;
+    let steps = steps_for(options.steps, policy);
+    let told = bounds(alloc, policy, options.driver, steps)?;
     let spelling = write(alloc, policy)?;
     let endless = never_gives_up(policy);
     let mut text = String::new(alloc);
-    push_line(
-        &mut text,
-        spelling.as_str(),
-        options.attempt,
-        endless,
-        &told,
-    )?;
+    push_line(&mut text, spelling.as_str(), options.driver, endless, &told)?;
     Ok(text)
 }

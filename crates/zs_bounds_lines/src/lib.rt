@@ -19,6 +19,7 @@ mod policy;
 mod program;
 mod running;
 mod words;
+mod work;
 
 pub use fault::{BoundsFault, OptionFault, PolicyFault, exit_code, status};
 pub use program::{reads_lines, run_words};

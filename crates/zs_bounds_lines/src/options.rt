@@ -5,8 +5,9 @@ use zs_bounds::Driver;
 /// What the bounds depend on beside the policy.
 #[derive(Clone, Copy, Debug, PartialEq, Eq)]
 pub(crate) struct Options {
-    /// How long each attempt takes.
-    pub(crate) attempt: Driver,
-    /// At most this number of steps of each policy is looked at.
-    pub(crate) steps: u64,
+    /// How long attempts take, and how long the driver waits between them.
+    pub(crate) driver: Driver,
+    /// At most this number of steps of each policy is looked at. `None` is the usual number, which
+    /// is lower for large policies.
+    pub(crate) steps: Option<u64>,
 }

@@ -14,13 +14,18 @@ use zs_run::{Drain, Source, write_all};
 
 const VERSION: &str = "zsched-bounds 0.3.0\n";
 
-const HELP: &str = "usage: zsched-bounds [--attempt [LEAST..]MOST] [--steps N] < POLICIES
+const HELP: &str = "usage: zsched-bounds [--attempt [LEAST..]MOST] [--wait LEAST..MOST%]
+                     [--late TIME|any] [--asked TIME] [--steps N] < POLICIES
 
 Reads a policy a line, and writes what is proved of each as a line of JSON.
 Empty lines, and lines that begin with #, are passed over.
 
   --attempt 20ms..5s  how long an attempt takes; 5s is at most 5 s (ms, s, m, h)
-  --steps N           looks at no more than N steps of each policy (20000)
+  --wait 80..120%     how long waits are, of those of the policy (100..100%)
+  --late 50ms         how much later an attempt may begin; any: by any time (0ms)
+  --asked 30s         the longest Retry-After that is honoured (0ms)
+  --steps N           looks at no more than N steps of each policy (20000, and of
+                      more than 60 nodes 1200000 divided by their number)
   --help              prints this
   --version           prints the version
 ";
@@ -30,8 +35,8 @@ fn request_of(words: &[String]) -> Result<Request, OptionFault>
     ensures value { result ≡ request_from usual_options (map string_bytes words.now) }
 {
     let usual = Options {
-        attempt: Driver::exact(),
-        steps: 20_000,
+        driver: Driver::exact(),
+        steps: None,
     };
     request_from(usual, words)
 }

@@ -1,10 +1,9 @@
 //! The request that the words of a command line are.
 ghost use Rattle.std.specs.Prelude.{◌≡◌, ◌+◌, ◌≤◌, IfSome, length, map, string_bytes};
-ghost use Rattle.zs_bounds_lines.specs.Words.{dots_from, duration_of, durations_between, durations_of, request_from, unit_of, with_option};
+ghost use Rattle.zs_bounds_lines.specs.Words.{between, dots_from, duration_of, durations_of, late_of, percent_of, percents_of, request_from, unit_of, with_option};
 
 use crate::fault::OptionFault;
 use crate::options::Options;
-use zs_bounds::{Driver, Waits};
 use zs_lines::{digits, number};
 
 /// What the program is to do.
@@ -66,31 +65,61 @@ fn dots(text: &[u8]) -> Option<usize>
     None
 }
 
-// Driver from a least to a most one, of 1 ms or more.
-fn between(least: Option<u64>, most: Option<u64>) -> Option<Driver>
-    ensures value { result ≡ durations_between least most }
+// A least and a most number, in order, none of them below the floor.
+fn between(floor: u64, least: Option<u64>, most: Option<u64>) -> Option<(u64, u64)>
+    ensures value { result ≡ between floor least most }
 {
     let least = least?;
     let most = most?;
-    if 1 <= least && least <= most {
-        Some(Driver {
-            least,
-            most: Some(most),
-            waits: Waits::exact(),
-        })
+    if floor <= least && least <= most {
+        Some((least, most))
     } else {
         None
     }
 }
 
-// The durations that a text is.
+// The least and the most duration that a text is, as `5s` or `20ms..5s`.
 #[tactic(auto, unfolding(crate::specs::Words::durations_of))]
-fn durations(text: &[u8]) -> Option<Driver>
+fn durations(text: &[u8]) -> Option<(u64, u64)>
     ensures value { result ≡ durations_of text.now }
 {
     match dots(text) {
-        None => between(Some(1), duration(text)),
-        Some(at) => between(duration(&text[..at]), duration(&text[at + 2..])),
+        None => between(1, Some(1), duration(text)),
+        Some(at) => between(1, duration(&text[..at]), duration(&text[at + 2..])),
+    }
+}
+
+// The number before a percent sign.
+fn percent(text: &[u8]) -> Option<u64>
+    ensures value { result ≡ percent_of text.now }
+{
+    let (number, count) = digits(text)?;
+    if 0 < count && &text[count..] == b"%".as_slice() {
+        Some(number)
+    } else {
+        None
+    }
+}
+
+// The least and the most percentage that a text is, as `80..120%`.
+#[tactic(auto, unfolding(crate::specs::Words::percents_of))]
+fn percents(text: &[u8]) -> Option<(u64, u64)>
+    ensures value { result ≡ percents_of text.now }
+{
+    match dots(text) {
+        None => None,
+        Some(at) => between(0, number(&text[..at]), percent(&text[at + 2..])),
+    }
+}
+
+// How late an attempt may begin, by a text: a duration, or `any`.
+fn late(text: &[u8]) -> Option<u64>
+    ensures value { result ≡ late_of text.now }
+{
+    if text == b"any".as_slice() {
+        Some(u64::MAX)
+    } else {
+        duration(text)
     }
 }
 
@@ -99,19 +128,39 @@ fn durations(text: &[u8]) -> Option<Driver>
 fn with_option(name: &str, value: &str, options: Options) -> Result<Options, OptionFault>
     ensures value { result ≡ with_option name.now value.now options }
 {
-    if name == "--steps" {
-        match number(value.as_bytes()) {
-            Some(steps) => Ok(Options { steps, ..options }),
-            None => Err(OptionFault::Steps),
-        }
-    } else if name == "--attempt" {
-        match durations(value.as_bytes()) {
-            Some(attempt) => Ok(Options { attempt, ..options }),
-            None => Err(OptionFault::Attempt),
-        }
+    let value = value.as_bytes();
+    let mut new = options;
+    if name == "--attempt" {
+        let Some((least, most)) = durations(value) else {
+            return Err(OptionFault::Attempt);
+        };
+        new.driver.least = least;
+        new.driver.most = Some(most);
+    } else if name == "--wait" {
+        let Some((least, most)) = percents(value) else {
+            return Err(OptionFault::Wait);
+        };
+        new.driver.waits.least_percent = least;
+        new.driver.waits.most_percent = most;
+    } else if name == "--late" {
+        let Some(time) = late(value) else {
+            return Err(OptionFault::Late);
+        };
+        new.driver.waits.late = time;
+    } else if name == "--asked" {
+        let Some(time) = duration(value) else {
+            return Err(OptionFault::Asked);
+        };
+        new.driver.waits.asked = time;
+    } else if name == "--steps" {
+        let Some(steps) = number(value) else {
+            return Err(OptionFault::Steps);
+        };
+        new.steps = Some(steps);
     } else {
-        Err(OptionFault::Unknown)
+        return Err(OptionFault::Unknown);
     }
+    Ok(new)
 }
 
 /// The request of words, after those of some options.
