@@ -5,15 +5,14 @@
     python3 benches/bench.py --check         the same bytes from both on examples/, tests/plans/ and these plans
     python3 benches/bench.py --growth        how cost grows, as tables and a picture
 
-The programs run in turn. The tables have the medians of wall time, processor time and peak memory: zsched's, the
-baseline's, and their ratio. `perf` counts the instructions, if it can. If it can't, and with --callgrind, valgrind
-counts them on plans of a tenth of the size. On a machine that does other work, trust only processor time and
-instructions.
+The programs run in turn. The tables have the least of several runs: the wall time, processor time and peak memory of
+zsched and of the baseline, and their ratio. `perf` counts the instructions, if it can. If it can't, and with
+--callgrind, valgrind counts them on plans of a tenth of the size. On a machine that does other work, wall time says
+nothing.
 Exit status: 0, 1 if bytes differ or a run failed, 2 if an argument or a program is wrong."""
 import argparse
 import os
 import pathlib
-import statistics
 import sys
 import tempfile
 
@@ -30,25 +29,27 @@ from zsched_tools import program
 BASELINE = HERE / "baseline" / "target" / "release" / "baseline"
 NAMES = ["zsched", "baseline"]
 RUNS = 5
+# How many times the baseline's quantities zsched's may be, and exceptions by plan and quantity.
+AIM, AIM_OF_SINGLE_POLLS = 1.25, 1.8
+AIMS = {("large_plan", "memory"): 1.4, ("long_schedules", "memory"): 2.0}
 # Exit statuses of a report, and of a rejected plan.
 ENDED = [0, 2]
 
 
-def median_of(runs):
-    """The medians of several runs, with the first status that differs from the first run's, if there is one."""
+def least_of(runs):
+    """The least of each over several runs, with the first status that differs from the first run's, if there is one."""
     other = [run.status for run in runs if run.status != runs[0].status]
-    middle = [statistics.median(values) for values in zip(*((run.wall, run.processor, run.memory) for run in runs))]
-    return measure.Run(*middle, (other or [runs[0].status])[0])
+    return measure.Run(*(min(values) for values in list(zip(*runs))[:3]), (other or [runs[0].status])[0])
 
 
 def in_turn(programs, plan, runs):
-    """Runs each program `runs` times on a plan, in turn, and returns the medians of each."""
+    """Runs each program `runs` times on a plan, in turn, and returns the least of each."""
     measured = [[measure.run(each, plan) for each in programs] for _ in range(runs)]
-    medians = [median_of(one) for one in zip(*measured)]
-    for name, median in zip(NAMES, medians):
-        if median.status not in ENDED:
-            raise measure.Failed(f"{name} ended with status {median.status} on {plan.name}")
-    return medians
+    least = [least_of(one) for one in zip(*measured)]
+    for name, run in zip(NAMES, least):
+        if run.status not in ENDED:
+            raise measure.Failed(f"{name} ended with status {run.status} on {plan.name}")
+    return least
 
 
 def answers(programs, plan, folder):
@@ -67,27 +68,40 @@ def instructions(programs, plan, small, callgrind):
     return [measure.instructions_by_callgrind(each, small) for each in programs] if callgrind else None
 
 
+def ratio(pair):
+    """The first over the second, to two places."""
+    return round(pair[0] / pair[1], 2)
+
+
 def cells(pair, scale, digits):
     """Both values, and the first over the second."""
-    texts = [f"{value * scale:,.{digits}f}" for value in pair]
-    return [" / ".join(texts), f"{pair[0] / pair[1]:.2f}"]
+    return [" / ".join(f"{value * scale:,.{digits}f}" for value in pair), f"{ratio(pair):.2f}"] if pair else ["", ""]
 
 
-def row(name, medians, counted, size, equal):
+def judged(name, pairs):
+    """The aims of a plan as a text, and which of its pairs miss them."""
+    aim = AIM_OF_SINGLE_POLLS if name.endswith("_4_1") else AIM
+    aims = {what: AIMS.get((name, what), aim) for what in pairs if what != "processor"}
+    missed = [what for what, most in aims.items() if pairs[what] and ratio(pairs[what]) > most]
+    others = [f"{what} {most}" for what, most in aims.items() if most != aim]
+    return [", ".join([str(aim), *others]), f"missed: {', '.join(missed)}" if missed else "reached"]
+
+
+def row(name, least, counted, size, equal):
     """A plan's row."""
+    pairs = {"instructions": counted, "processor": [run.processor for run in least],
+             "wall": [run.wall for run in least], "memory": [run.memory for run in least]}
     fields = [f"`{name}`", f"{size / 1e6:.1f}"]
-    fields += cells(counted, 1e-6, 1) if counted else ["", ""]
-    fields += cells([run.wall for run in medians], 1000, 0)
-    fields += cells([run.processor for run in medians], 1000, 0)
-    fields += cells([run.memory for run in medians], 1e-6, 1)
-    return f"| {' | '.join(fields)} | {'yes' if equal else 'NO'} |"
+    for pair, scale, digits in zip(pairs.values(), [1e-6, 1000, 1000, 1e-6], [1, 0, 0, 1]):
+        fields += cells(pair, scale, digits)
+    return f"| {' | '.join([*fields, *judged(name, pairs)])} | {'yes' if equal else 'NO'} |"
 
 
 def head_of_table():
     """The two lines above the rows."""
-    names = ["Plan", "Output, MB", "Instructions, millions", "x", "Wall, ms", "x", "Processor, ms", "x",
-             "Peak, MB", "x", "Same bytes"]
-    return f"| {' | '.join(names)} |\n|---|" + "---:|" * (len(names) - 2) + "---|"
+    names = ["Plan", "Output, MB", "Instructions, millions", "x", "Processor, ms", "x", "Wall, ms", "x", "Peak, MB",
+             "x", "Aim, x", "Result", "Same bytes"]
+    return f"| {' | '.join(names)} |\n|---|" + "---:|" * (len(names) - 3) + "---|---|"
 
 
 def tell_plans(programs, given, folder):
@@ -97,9 +111,9 @@ def tell_plans(programs, given, folder):
     small = dict(plans.write(folder / "small", 10 * given.divisor, given.only)) if given.callgrind else {}
     for name, plan in plans.write(folder, given.divisor, given.only):
         answer, equal = answers(programs, plan, folder)
-        medians = in_turn(programs, plan, given.runs)
+        least = in_turn(programs, plan, given.runs)
         counted = instructions(programs, plan, small.get(name), given.callgrind)
-        print(row(name, medians, counted, len(answer.output), equal), flush=True)
+        print(row(name, least, counted, len(answer.output), equal), flush=True)
         all_same = all_same and equal
     return all_same
 

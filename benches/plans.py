@@ -45,6 +45,12 @@ def picked(leaves):
     return f"({picked(left)} && {picked(leaves - left)}).map(_1)"
 
 
+def rounds(horizon):
+    """4 jobs that are due together each 10 ms, for two workers."""
+    jobs = [job(f"j{number}", "forever", [{"ms": 10, "ok": 1}]) for number in range(4)]
+    return plan(jobs, horizon=horizon, workers=2)
+
+
 def deep():
     """A schedule 64 deep, each node over one part."""
     tails = [".whileInput(>= 0)", ".map(+ 1)", ".whileOutput(>= 0)"]
@@ -64,10 +70,10 @@ def jobs_at_once(count, workers, grain):
     return plan(jobs, horizon=1000, workers=workers, grain=grain)
 
 
-def heavy_jobs_at_once(count, workers, grain):
-    """`count` jobs of 100 attempts over 511 nodes each, all due at the same moments."""
-    schedule = picked(171)
-    return plan([job(f"j{number}", schedule) for number in range(count)], horizon=100, workers=workers, grain=grain)
+def heavy_jobs_at_once(count, workers, grain, leaves=171, attempts=100):
+    """`count` jobs with schedules of 3 * leaves - 2 nodes, by default 511, all due at the same moments."""
+    jobs = [job(f"j{number}", picked(leaves)) for number in range(count)]
+    return plan(jobs, horizon=attempts, workers=workers, grain=grain)
 
 
 def scattered_timers(count):
@@ -119,8 +125,10 @@ def plans(divisor=1):
         made[f"heavy_{workers}_{grain}"] = lambda w=workers, g=grain: heavy_jobs_at_once(least(2_000), w, g)
     return made | {
         "scattered_timers": lambda: scattered_timers(least(10_000)),
+        "rounds_2_1": lambda: rounds(least(20_000)),
         "deep_64": lambda: steps_of(deep(), least(100_000)),
         "wide_999": lambda: steps_of(balanced(500), least(1_000)),
+        "wide_silent": lambda: steps_of(balanced(500) + ".map(as 0)", least(1_000)),
         "collect_written": lambda: steps_of("identity.collectAll", least(3_000)),
         "collect_counted": lambda: steps_of("identity.collectAll.map(size)", least(20_000)),
         "collect_nested": lambda: steps_of("identity.collectAll.collectAll", least(300)),

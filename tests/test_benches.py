@@ -75,6 +75,13 @@ def test_a_run_prints_a_row(tmp_path):
     assert (status, lines[-1]) == (1, "bench.py: baseline ended with status 4 on resets.json")
 
 
+def test_a_row_says_which_aims_it_misses():
+    pairs = {"instructions": (126, 100), "processor": (300, 100), "wall": (125, 100), "memory": (140, 100)}
+    assert bench.judged("large_plan", pairs) == ["1.25, memory 1.4", "missed: instructions"]
+    assert bench.judged("resets", {**pairs, "instructions": None}) == ["1.25", "missed: memory"]
+    assert bench.judged("jobs_4_1", pairs) == ["1.8", "reached"]
+
+
 def test_growth_is_drawn(tmp_path):
     picture = tmp_path / "growth.svg"
     status, lines = ran("--growth", "--zsched", CAT, "--baseline", CAT, "--runs", "1", "--divisor", "1000",
@@ -99,6 +106,16 @@ def test_a_log_is_measured_by_the_program_alone_too(zsched, tmp_path):
     assert (status, errors, os.listdir(tmp_path)) == (0, "", [])
     found = re.findall(r"^\| ([\w ,`]+) \| program \|( [\d,]+\.\d \|){2}( [\d,]+ \|){2}$", rows, re.MULTILINE)
     assert [row[0] for row in found] == ["follows", "follows, `elapsed`", "plan"]
+
+
+def test_workers_are_measured_at_each_cut(zsched):
+    words = [sys.executable, BENCHES / "workers.py", "--divisor", "1000", "--runs", "1", "--zsched"]
+    status, rows, errors = run_tool([*words, zsched])
+    assert (status, errors) == (0, "")
+    cells = r"^(\| \d+ ){3}\| [\d,]+ \|( [\d,]+ \(\d+\.\d\d\) \|){4}$"
+    assert len(re.findall(cells, rows, re.MULTILINE)) == 6
+    status, _, errors = run_tool([*words, shutil.which("false")])
+    assert (status, errors) == (1, "workers.py: a run of 10000 jobs didn't end with 0\n")
 
 
 # What is wrong, the commands of the program that is run, and a pattern of the error.
