@@ -10,8 +10,8 @@ from zsched_tools import program, schedule_rules
 from zsched_tools.command import Paint
 
 MOST_ATTEMPTS = 10**6
-# The nodes of schedules that a thread steps in about a millisecond.
-_BATCH = 4000
+# From which number of nodes on a schedule pays for more workers than one, and a batch of schedules for its thread.
+_NODES, _BATCH = 100, 4000
 _MOST_TICKS = 1000000
 _LEAST_MS = 1
 _COMPARE = {"<": operator.lt, "<=": operator.le, "=": operator.eq, "!=": operator.ne, ">": operator.gt,
@@ -50,12 +50,8 @@ def warning(plan, limit=MOST_ATTEMPTS, times=1):
 
 
 def workers_warning(plan):
-    """The warning for a plan's bytes with several workers and batches that take less than their threads, else None."""
-    grain = _found(plan, _lacking_grain) if b"workers" in plan else None
-    if grain is None:
-        return None
-    return ("its workers take longer than one, since threads start at each moment: leave \"workers\" out, or, if "
-            f"thousands of jobs are due at a moment, write a grain of {grain} or more")
+    """The warning for a plan's bytes with several workers that don't pay, else None."""
+    return _found(plan, _no_pay) if b"workers" in plan else None
 
 
 def _found(plan, search):
@@ -71,14 +67,18 @@ def _clock(tree):
     return [tree["horizon"]] if "horizon" in tree else tree["ticks"]
 
 
-def _lacking_grain(tree):
-    """The least grain that pays, if a plan has several workers and more than one batch, and a smaller grain."""
+def _no_pay(tree):
+    """Why workers don't pay, if a plan has several and more than one batch: small schedules, or a small grain."""
     grain, jobs = tree.get("grain", 1), tree["jobs"]
     if tree.get("workers", 1) < 2 or len(jobs) <= grain:
         return None
     nodes = max(sum(piece.word not in "()" for piece in schedule_rules.pieces(job["schedule"])) for job in jobs)
     least = -(-_BATCH // nodes)
-    return least if grain < least else None
+    if nodes < _NODES:
+        return f"its workers don't pay, since no schedule has {_NODES} nodes: leave \"workers\" out"
+    if grain < least:
+        return f"its workers don't pay, since threads start at each moment: write a grain of {least} or more"
+    return None
 
 
 def with_one_tick(plan):
