@@ -123,7 +123,7 @@ def shown_in(section):
 
 def test_the_whole_call_of_five_recipes_with_attempts_of_5_s(bounds):
     rows = re.findall(r"^\| `(.*)` \| (.*) \| (.*) \| (.*) \|$", SECTIONS[0], re.M)
-    found = bounding.run(bounds, [it.replace("\\|", "|") for it, *_ in rows], attempt=(1, 5000))
+    found = bounding.run(bounds, [it.replace("\\|", "|") for it, *_ in rows], bounding.Driver((1, 5000)))
     assert [(*it.cells()[::2], duration(it.run)) for it in found] == [tuple(row) for _, *row in rows] and len(rows) == 5
 
 

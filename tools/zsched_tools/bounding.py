@@ -1,16 +1,17 @@
 """The bounds of a policy for every input, as zsched-bounds prints them: lines of JSON, each shown as text."""
 import json
 from dataclasses import dataclass, replace
+from typing import NamedTuple
 
-from zsched_tools import program
+from zsched_tools import program, schedule_rules
 from zsched_tools.program import LAST_MOMENT
 from zsched_tools.words import DAY, duration, plural
 
-# The program looks at this number of steps at most.
-MOST_STEPS = 20000
+# The program looks at this number of steps at most, and at this number of steps of all nodes.
+MOST_STEPS, MOST_WORK = 20000, 1000000
 # What is known of a policy without limits.
 _UNLIMITED = {"most": None, "longest": LAST_MOMENT + 1, "total": None, "seen": MOST_STEPS, "run": None,
-              "is_endless": False}
+              "is_endless": False, "is_cut": True}
 # A time of this length is shown in days, and is no limit of waits that may go on.
 _LONG = 1000 * DAY
 
@@ -20,12 +21,38 @@ def rounded(ms):
     return duration(ms) if ms < _LONG else f"{-(-ms // DAY)} d"
 
 
+class Driver(NamedTuple):
+    """What runs a policy: the least and the greatest duration of attempts (None: any), how late an attempt may begin
+    after its wait (None: by any time), and the longest wait that a service may ask for."""
+    attempt: tuple | None = None
+    late: int | None = 0
+    asked: int = 0
+
+    def words(self, of="attempts", is_named=False):
+        """What is run, in words, if it isn't any attempt at the end of its wait, or is named."""
+        least, most = self.attempt or (None, None)
+        long = "" if most is None else f" of at most {duration(most)}" if least == 1 else " of " + " to ".join(
+            dict.fromkeys(map(duration, self.attempt)))
+        late = " that begin at any later moment" if self.late is None else (
+            f" that begin up to {duration(self.late)} late" if self.late else "")
+        asked = f" and Retry-After of up to {duration(self.asked)}" if self.asked else ""
+        return f" and {of}{long}{late}{asked}" if long or late or is_named else asked
+
+    def options(self, least, most):
+        """Those of the program, for waits between two percentages of the schedule's."""
+        given = {"attempt": self.attempt and "{}ms..{}ms".format(*self.attempt),
+                 "wait": (least, most) != (100, 100) and f"{least}..{most}%",
+                 "late": "any" if self.late is None else self.late and f"{self.late}ms",
+                 "asked": self.asked and f"{self.asked}ms"}
+        return [word for name, value in given.items() if value for word in (f"--{name}", value)]
+
+
 @dataclass
 class Bounds:
     """The least and the most attempts until a policy gives up, the longest wait and all waits together in milliseconds,
     the number of steps that were evaluated, the time from the begin of the first attempt to the end of the last,
-    whether attempts have a greatest duration, whether the policy never gives up, and whether the program was proved.
-    None is an unknown number."""
+    whether attempts have a greatest duration, whether the policy never gives up, whether the program was proved, and
+    whether there may be more steps than it looks at. None is an unknown number."""
     least: int
     most: int | None
     longest: int
@@ -35,6 +62,7 @@ class Bounds:
     is_limited: bool = False
     is_endless: bool = False
     is_proved: bool = True
+    is_cut: bool = False
 
     def attempts(self):
         if self.is_endless:
@@ -46,10 +74,6 @@ class Bounds:
         if self.least == self.most:
             return f"{plural(self.most, 'attempt')}, always"
         return f"{self.least} to {self.most} attempts"
-
-    def has_all_waits(self):
-        """Whether the longest wait is that of all steps, and not only of those that were looked at."""
-        return self.most is not None or self.seen < MOST_STEPS
 
     def limits(self):
         """The longest wait of the evaluated steps and all waits; None if it limits nothing."""
@@ -63,11 +87,11 @@ class Bounds:
         longest, total = self.limits()
         if longest is None:
             return "waits without a proved limit"
-        if not self.has_all_waits():
-            return f"first {MOST_STEPS} waits of {f'at most {rounded(longest)}' if longest else '0 ms'}"
-        if longest == 0:
+        if longest == 0 and not self.is_cut:
             return "no waits"
-        return f"waits of at most {rounded(longest)}{'' if total is None else f', {rounded(total)} in all'}"
+        every = f"first {self.seen} waits" if self.is_cut else "waits"
+        most = f"at most {rounded(longest)}" if longest else "0 ms"
+        return f"{every} of {most}{'' if total is None else f', {rounded(total)} in all'}"
 
     def cells(self):
         """The attempts, the longest wait and all waits as cells of a table. A dash is a number without a limit."""
@@ -92,36 +116,22 @@ def mark(*bounds):
     return "" if all(it.is_proved for it in bounds) else "unproved: "
 
 
-def of_policies(path, policies, attempt=None):
-    """The bounds of each Policy, for every draw if it is random. `attempt` is as that of `run`."""
-    groups = [list((it.limits() or ())[:2]) if it.is_drawn or it.is_less else [it.spelled] for it in policies]
-    found = iter(run(path, sum(groups, []), attempt=attempt))
-    firsts = [[next(found) for _ in group] for group in groups]
-    bounds = [first[0] if first and len(group) == 1 else _of_draws(path, it, first, attempt)
-              for it, group, first in zip(policies, groups, firsts)]
+def of_policies(path, policies, drivers):
+    """The bounds of each Policy with its Driver, for every draw if it is random."""
+    asked, groups = [(it.driven(), driver) for it, driver in zip(policies, drivers)], {}
+    for driven, driver in asked:
+        if driven:
+            groups.setdefault((driver, driven[1]), []).append(driven[0])
+    found = {(driver, waits): iter(run(path, group, driver, waits)) for (driver, waits), group in groups.items()}
+    bounds = [next(found[driver, driven[1]]) if driven else Bounds(1, **_UNLIMITED) for driven, driver in asked]
     return [replace(it, **_UNLIMITED) if policy.is_cut else it for policy, it in zip(policies, bounds)]
 
 
-def _of_draws(path, policy, found, attempt):
-    """The bounds of a random Policy from those of its greatest and its least waits. Its waits are at most the greatest
-    before the last attempt."""
-    if not found:
-        return Bounds(1, **_UNLIMITED)
-    most, without_limit = found[1].most, policy.limits()[2]
-    waits = run(path, [without_limit if most is None else f"({without_limit} && recurs({most - 1}))"], None, attempt)[0]
-    # Steps after the last moment of a plan aren't looked at, and with shorter waits they come before it.
-    if waits.seen < MOST_STEPS and (waits.total is None or waits.total > LAST_MOMENT):
-        waits = replace(waits, **_UNLIMITED)
-    is_endless = all(it.is_endless for it in found)
-    return replace(waits, least=found[0].least, most=most, is_endless=is_endless)
-
-
-def run(path, policies, seconds=None, attempt=None):
-    """The bounds of each policy by the program at this path. `attempt` has the least and the greatest duration of
-    attempts (None: any). subprocess.TimeoutExpired is raised after the seconds."""
-    options = ["--attempt", "{}ms..{}ms".format(*attempt)] if attempt else []
+def run(path, policies, driver=Driver(), waits=(100, 100), seconds=None):
+    """The bounds of each policy by the program at this path, for a driver whose waits are between two percentages of
+    the policy's. subprocess.TimeoutExpired is raised after the seconds."""
     given = "".join(f"{policy}\n" for policy in policies).encode()
-    status, printed, errors = program.run(path, given, seconds, options)
+    status, printed, errors = program.run(path, given, seconds, driver.options(*waits))
     if status:
         raise ChildProcessError(program.failure(status, errors, "zsched-bounds"))
     lines = printed.splitlines()
@@ -129,9 +139,20 @@ def run(path, policies, seconds=None, attempt=None):
         raise ChildProcessError(f"{path} printed {plural(len(lines), 'line')} for {len(policies)} policies")
     is_proved = program.is_proved(path)
     try:
-        return [Bounds(read["attempts"]["least"], read["attempts"]["most"], read["longest_wait"], read["total_wait"],
-                       read["steps_seen"], read["longest_run"], read["attempt"]["most"] is not None,
-                       read["never_gives_up"], is_proved)
-                for read in map(json.loads, lines)]
-    except (ValueError, KeyError, TypeError):
+        return [_read(json.loads(line), is_proved) for line in lines]
+    except (ValueError, LookupError, TypeError):
         raise ChildProcessError(f"{path} printed a line without bounds") from None
+
+
+def _read(line, is_proved):
+    most, seen = line["attempts"]["most"], line["steps_seen"]
+    return Bounds(line["attempts"]["least"], most, line["longest_wait"], line["total_wait"], seen, line["longest_run"],
+                  line["attempt"]["most"] is not None, line["never_gives_up"], is_proved,
+                  most is None and seen >= _most_steps(line["policy"]))
+
+
+def _most_steps(policy):
+    """The number of steps of a policy at which the program looks, by the number of its nodes."""
+    nodes = schedule_rules.folded(policy, lambda _: 1, lambda _, *parts: 1 + sum(parts), lambda it, part: (
+        1 + part * (2 if it.word == "resetWhen" else 1)))
+    return max(1, min(MOST_STEPS, MOST_WORK // nodes))

@@ -5,7 +5,6 @@ written. A source of draws, as `seeded`, gets the number of a random part of the
 part: a function of the number of a wait, and of the least and the greatest number. The waits of `S jitter ..` come from
 the program, and must depend on nothing but their number. The first 239 are drawn one by one, and all later ones, which
 must be equal, with one draw."""
-import contextlib
 import functools
 import itertools
 import re
@@ -14,7 +13,7 @@ from fractions import Fraction
 from math import ceil, floor
 from typing import Callable, NamedTuple
 
-from zsched_tools import hints, program
+from zsched_tools import hints, program, schedule_rules
 from zsched_tools.command import REFUSED, Refused
 from zsched_tools.durations import milliseconds
 from zsched_tools.hints import TABLE
@@ -22,7 +21,6 @@ from zsched_tools.place import Cause, FaultAt, told
 from zsched_tools.policy import spelling
 from zsched_tools.positions import MAX_WHOLE
 from zsched_tools.program import LAST_MOMENT
-from zsched_tools.schedule_rules import any_cause
 from zsched_tools.trials import plain_name, plan_of, waits_in
 from zsched_tools.words import duration
 
@@ -37,21 +35,22 @@ _PARTS = 2**40
 _PART = r"[0-9]{1,9}(?:/[1-9][0-9]{0,8})?"
 _AFTER = re.compile(rf" *(?<![A-Za-z])jitter +(full|equal|([0-9]{{1,3}}(?:\.[0-9]{{1,9}})?) *%|({_PART})\.\.({_PART}))"
                     "(?![A-Za-z0-9/])")
-_LIMIT = r"elapsed\.whileOutput\(<=? *[0-9]+ *\)"
-_LIMITED = re.compile(rf"\( *(.*\S) *&& *{_LIMIT} *\)")
+_LIMITED = re.compile(r"\( *(.*\S) *&& *elapsed\.whileOutput\(<=? *[0-9]+ *\) *\)")
 _OF_INPUT = re.compile(r"(.*)\.whileInput\([^()]*\)")
 _UNSTEADY = {"elapsed", "fixed", "windowed", "identity", "whileInput"}
-_RANDOM_WAIT = re.compile(r"(?:spaced|linear|fibonacci|exponential)\( *\Z")
+# The leaves whose waits grow with their first number, and those of them whose output doesn't.
+_SCALED = {"spaced", "linear", "fibonacci", "exponential"}, {"spaced"}
 
 
 class Piece(NamedTuple):
     """A piece of a policy's text. `spelled` is its text without sugar. `draw` returns that of a draw: it gets a source
     of draws of this part, and the most waits (None: all). It is None if nothing is random, and empty for the words of a
-    jitter."""
+    jitter. `share` has the least and the greatest percentage of each wait of `spelled`, if that is jittered."""
     at: int
     size: int
     spelled: str
     draw: Callable | str | None = None
+    share: tuple | None = None
 
 
 def refuse(at, size, what, help="", **values):
@@ -101,6 +100,7 @@ class Policy:
     def __init__(self, text, zsched=None):
         self.text, self.zsched, self.left_out = text, zsched, []
         self.timeout = self.deadline = self.jitter = None
+        self.is_whole = False
         found = _NAME.match(text)
         self.name, self.begin = (found[1], found.end()) if found else ("", 0)
         self.source = text[self.begin:]
@@ -131,15 +131,10 @@ class Policy:
         """Whether draws differ."""
         return any(piece.draw for piece in self.pieces)
 
-    @property
-    def is_less(self):
-        """Whether waits may be shorter than those of all draws, since its config draws them in another way."""
-        return any(GREATEST_WAITS in what for what in self.left_out)
-
     def ends(self):
         """The schedules of the least and the greatest waits, whether waits may be shorter than the least, and whether
         others may follow them."""
-        return self.schedule(LOW), self.schedule(HIGH), self.is_less, self.is_cut
+        return self.schedule(LOW), self.schedule(HIGH), bool(self.jitter), self.is_cut
 
     @property
     def is_cut(self):
@@ -187,34 +182,35 @@ class Policy:
         status, _, errors = program.report_of(zsched, program.one_job(0, schedule, '{"ms":1,"ok":0}'), 1)
         line = program.failure(status, errors)
         if status == REFUSED:
-            raise FaultAt(self.cause_at(source, any_cause(schedule, line.partition("schedule: ")[2])))
+            cause = schedule_rules.any_cause(schedule, line.partition("schedule: ")[2])
+            raise FaultAt(self.cause_at(source, cause))
         if status:
             raise OSError(f"{zsched}: {line}")
 
-    def limits(self):
-        """The schedules whose bounds together hold for every draw: of the greatest waits, of the least waits, and of
-        the greatest without a limit of time. None if nothing is known to hold.
+    def driven(self):
+        """A schedule, and two percentages of its waits between which is each wait of every draw; None if none is known.
 
-        All parts but a limit of time evaluate the same steps whatever they wait, and a longer wait of a part makes no
-        wait of the whole shorter. A limit of time that all parts are under ends no later if the waits are longer."""
-        if self.is_less:
-            with contextlib.suppress(FaultAt):
-                return Policy(f"{self.source} jitter full", self.zsched).limits()
-            return None
-        fixed = "".join("0" if piece.draw and piece.size else piece.spelled for piece in self.pieces)
-        rest, count = re.subn(_LIMIT, "forever", fixed)
-        words = set(re.findall("[A-Za-z]+", rest))
-        befores = ["".join(it.spelled for it in self.pieces[:number]) for number, piece in enumerate(self.pieces)
-                   if piece.draw and self.source.startswith("rand", piece.at)]
-        if words & {"elapsed", "fixed", "windowed", "resetWhen", "whileOutput"} or not all(
-                map(_RANDOM_WAIT.search, befores)) or (count and ("||" in rest or "andThenEither" in rest)):
-            return None
-        high = self.schedule(HIGH)
-        return high, self.schedule(LOW), re.sub(_LIMIT, "forever", high)
+        If a part alone is drawn, no wait of the whole leaves the percentages up to 100 of that with the greatest draws:
+        `&&`, `||` and andThenEither wait as long as one of their parts. What is drawn must have no other effect, on a
+        count, on a number beside waits, or on an output that a test reads."""
+        if self.is_whole:
+            return "".join(it.spelled for it in self.pieces if it.draw != ""), self.pieces[1].share
+        is_read = re.search(r"(?<!elapsed)\.(whileOutput|resetWhen)", self.spelled) is not None
+        low, high = ("".join(it.spelled if it.share and it.share[1] == 100 and not is_read else text
+                             for it, text in zip(self.pieces, self.texts(source))) for source in (LOW, HIGH))
+        lows = [100, *(it.share[0] for it in self.pieces if it.share), *[0] * bool(self.jitter)]
+        for least, most in zip(*map(schedule_rules.pieces, (low, high))):
+            given = [[int(word[0]) for word in it.arguments if word[0].isdigit()] for it in (least, most)]
+            if given[0] != given[1]:
+                if least.word not in _SCALED[is_read] or given[0][1:] != given[1][1:]:
+                    return None
+                lows.append(100 * given[0][0] // given[1][0])
+        return high, (min(lows), 100)
 
     def _jitter(self, found):
         """The pieces of a jitter: the schedule before it, and its words."""
         begin, end = _operand(self.source, found.start()), found.start()
+        self.is_whole = not (self.source[:begin] + self.source[found.end():]).strip()
         while (inner := _LIMITED.fullmatch(self.source, begin, end)) and _is_balanced(inner[1]) or (
                 inner := _OF_INPUT.fullmatch(self.source, begin, end)):
             begin, end = inner.span(1)
@@ -227,8 +223,9 @@ class Policy:
         if unsteady:
             refuse(begin, end - begin, "depend", "without", text=min(unsteady))
         ends, word = _ends(found), Piece(found.start(), len(found[0]), found[0], "")
+        share = floor(100 * ends[0]), ceil(100 * ends[1])
         made = functools.cache(lambda: _jittered(self.zsched or program.find(), inner, begin, ends))
-        return word, Piece(begin, end - begin, inner.spelled, lambda *draw: _filled(*made(), *draw))
+        return word, Piece(begin, end - begin, inner.spelled, lambda *draw: _filled(*made(), *draw), share)
 
 
 def _ends(found):
@@ -351,7 +348,7 @@ def waits_of(zsched, schedule):
     status, report, errors = program.report_of(zsched, plan.encode(), 1)
     line = program.failure(status, errors)
     if status == REFUSED:
-        raise FaultAt(any_cause(schedule, line.partition("schedule: ")[2]))
+        raise FaultAt(schedule_rules.any_cause(schedule, line.partition("schedule: ")[2]))
     if status:
         raise ChildProcessError(line)
     return waits_in(report), b"\nend failed" in report
@@ -409,6 +406,11 @@ def _one_after_another(terms):
     return f"({first}andThenEither{'' if second[0] == '(' else ' '}{second})"
 
 
+def every(policies):
+    """What bounds of policies hold for."""
+    return "for every draw and input" if any(it.is_drawn or it.jitter for it in policies) else "for every input"
+
+
 def check_schedule(tool, given):
     """Reads the schedule of a log's jobs, which may have sugar, and runs the program to check it. Returns it."""
     found = program.find(given.zsched)
@@ -419,7 +421,7 @@ def check_schedule(tool, given):
         raise Refused(told("--schedule", given.schedule, fault.cause)) from None
     if policy.is_drawn and not getattr(given, "windows", tool == "zsched-follows"):
         raise Refused("--schedule: a plan has no random waits; --windows makes a scenario, which has them")
-    if policy.is_drawn and tool == "zsched-follows" and policy.limits() is None:
+    if policy.is_drawn and tool == "zsched-follows" and policy.driven() is None:
         raise Refused("--schedule: the waits of this schedule aren't between those of its least and its greatest draw")
     policy.show(tool)
     given.schedule = policy.source if policy.is_drawn else policy.spelled

@@ -64,7 +64,7 @@ def every_input(bounds, plan, attempt):
     if bounds is None or len(schedules) > MOST_POLICIES:
         return {"bounds": {}}
     try:
-        found = bounding.run(bounds, schedules, SECONDS, attempt)
+        found = bounding.run(bounds, schedules, bounding.Driver(attempt), seconds=SECONDS)
         return {"bounds": {schedule: it.line() for schedule, it in zip(schedules, found)},
                 "proved": program.is_proved(bounds)}
     except (OSError, subprocess.TimeoutExpired):

@@ -154,7 +154,7 @@ def _always(scope, one, other):
     """How the bounds of the second policy differ from those of the first one, in lines."""
     if other.most is not None and other.most < one.least or one.most is not None and one.most < other.least:
         yield f"{scope} B makes {'fewer' if other.least < one.least else 'more'} attempts than A"
-    waits, totals = zip(*(it.limits() if it.has_all_waits() else (None, None) for it in (one, other)))
+    waits, totals = zip(*((None, None) if it.is_cut else it.limits() for it in (one, other)))
     least = ["no end" if it.is_endless else f"at least {plural(it.least, 'attempt')}" for it in (one, other)]
     limits = ["{1} (A: {0})".format(*least) if least[0] != least[1] else "",
               _limit(one.most, other.most, "attempts", "{} more", "{} fewer", "attempt"),

@@ -4,7 +4,7 @@ import re
 from typing import NamedTuple
 
 from zsched_tools import bounding, schedule_rules
-from zsched_tools.drawn import HIGH
+from zsched_tools.drawn import HIGH, every
 from zsched_tools.words import duration, plural
 
 _COUNT, _INPUT = ("the number of retries", False), ("the value or error code", False)
@@ -111,8 +111,7 @@ def explained(policy, path):
     yield term.text
     yield from (f"each wait is drawn:{it.spelled}" for it in policy.pieces if it.draw == "")
     if path is not None:
-        every = "for every draw and input" if policy.is_drawn or policy.is_less else "for every input"
-        yield f"{every}: {bounding.of_policies(path, [policy])[0].line()}"
+        yield f"{every([policy])}: {bounding.of_policies(path, [policy], [bounding.Driver()])[0].line()}"
     idle = [part for part, _ in idle_parts(term, path)] if path is not None else []
     widest = max(2 * depth + len(it.word) for it, depth, *_ in term.all())
     yield ""

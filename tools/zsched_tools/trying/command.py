@@ -6,8 +6,9 @@ import sys
 from dataclasses import replace
 
 from zsched_tools import bounding, command, plan_size, program, starting
+from zsched_tools.bounding import Driver
 from zsched_tools.command import REFUSED, Paint, Refused
-from zsched_tools.drawn import Policy, seeded
+from zsched_tools.drawn import Policy, every, seeded
 from zsched_tools.durations import duration_argument
 from zsched_tools.place import FaultAt, tell
 from zsched_tools.program import LAST_MOMENT
@@ -102,6 +103,11 @@ def attempt_of(given, policy):
     return given.attempt or (policy.timeout and (1, policy.timeout))
 
 
+def driver_of(given, policy):
+    """What runs a policy in service, by the options and its config."""
+    return Driver(attempt_of(given, policy), given.late, given.asked)
+
+
 def entries_of(given, policy):
     """The entries of the script of a policy. Its attempts take as long as its own limit, whatever others have."""
     limits = attempt_of(given, policy)
@@ -132,10 +138,10 @@ def _exceeded(given, policy, found):
 
 def _not_proved(given, policy, bounds):
     """The required bounds of a policy that aren't proved, in words."""
-    wait = bounds.longest if bounds.has_all_waits() else None
+    wait = None if bounds.is_cut else bounds.longest
     for name, found, words, without in [
             ("most", bounds.most, "up to {}", "no limit of attempts"),
-            ("wait", wait, "waits of up to {}", f"no limit after the first {bounding.MOST_STEPS} waits"),
+            ("wait", wait, "waits of up to {}", f"no limit after the first {bounds.seen} waits"),
             ("total", bounds.total, "waits of up to {} in all", "no limit of waits"),
             ("end", bounds.run, "a call of up to {}", "no limit of the whole call")]:
         limit = getattr(given, f"require_{name}")
@@ -152,12 +158,9 @@ def _not_proved(given, policy, bounds):
 
 def bounds_of_all(given):
     """The bounds of the policies for every input; None for each if zsched-bounds isn't found and isn't required."""
-    path, attempts = _bounds_path(given), [attempt_of(given, policy) for policy in given.read]
-    _check_end(given, given.read, attempts)
-    if path is not None:
-        groups = [given.read] if len(set(attempts)) == 1 else [[it] for it in given.read]
-        return [it for group in groups for it in bounding.of_policies(path, group, attempt_of(given, group[0]))]
-    return [None] * len(given.policies)
+    path, drivers = _bounds_path(given), [driver_of(given, policy) for policy in given.read]
+    _check_end(given, given.read, [it.attempt for it in drivers])
+    return bounding.of_policies(path, given.read, drivers) if path else [None] * len(given.read)
 
 
 def _check_end(given, policies, attempts):
@@ -198,12 +201,11 @@ def _wrong(tool, given, cause):
 
 
 def of_all(given, *policies):
-    """What the bounds of policies are for, with the durations of their attempts."""
-    every = "for every draw and input" if any(it.is_drawn or it.is_less for it in policies) else "for every input"
-    attempt, *others = {attempt_of(given, it) for it in policies}
+    """What the bounds of policies are for, with what runs them."""
+    driver, *others = {driver_of(given, it) for it in policies}
     if others:
-        return f"{every} and each one's attempts"
-    return f"{every} and attempts{layers.of_attempts(attempt)}" if attempt else every
+        return every(policies) + driver._replace(attempt=None).words("each one's attempts", True)
+    return every(policies) + driver.words()
 
 
 def _draw(given, report):
@@ -306,17 +308,16 @@ def _work_over(given):
     outer, bottom = given.read[0], given.read[-1]
     limits, entries = [it.timeout for it in given.read], entries_of(given, bottom)
     made = layers.Layers(program.find(given.zsched), given, limits, entries)
-    call, path, attempt = made.call(), _bounds_path(given), attempt_of(given, bottom)
-    _check_end(given, [outer], [attempt])
+    call, path = made.call(), _bounds_path(given)
+    _check_end(given, [outer], [attempt_of(given, bottom)])
     if given.plan:
         print(made.plan(call).decode(), end="")
         return 0
-    found, whole = made.bounds(path, attempt) if path else ([], None)
+    found, whole = made.bounds(path, driver_of(given, bottom)) if path else ([], None)
     if given.svg:
         _draw(given, program.run_plan(made.zsched, made.plan(call)))
     else:
-        every = "for every draw and input" if any(it.is_drawn or it.is_less for it in given.read) else "for every input"
-        layers.show(made, call, found, whole, every)
+        layers.show(made, call, found, whole, every(given.read))
     tried_whole = replace(call.tried, attempts=call.bottom())
     lines = [*_exceeded(given, outer, tried_whole), *(_not_proved(given, outer, whole) if whole else [])]
     for words in lines:
@@ -335,6 +336,11 @@ def add_attempts(parser):
     parser.add_argument("--attempt", type=_durations, metavar="TIME",
                         help="the greatest duration of an attempt: 5s; with the least one: 20ms..5s. It is also that "
                              "of the attempts of this run, unless --fails or --then say another")
+    parser.add_argument("--late", type=lambda word: None if word == "any" else _time(0)(word), default=0, metavar="TIME",
+                        help="how late an attempt may begin after its wait, for every input: 50ms, or any time: any")
+    parser.add_argument("--asked", type=_time(0), default=0, metavar="TIME",
+                        help="the longest wait that is honoured if the service asks for it, as by Retry-After, for "
+                             "every input: 30s")
     parser.add_argument("--until", type=_time(0), default=_time(0)("1d"), metavar="TIME", help="the horizon: 1d")
     parser.add_argument("--seed", type=_count(2**64 - 1), default=0, metavar="N", help="of random waits (0)")
     add_programs(parser)

@@ -87,10 +87,10 @@ class Layers:
                 raise Refused(f"a picture and a plan have at most {MOST_ROWS} calls")
         return cut_plans(self.given.until, found)[0][0]
 
-    def bounds(self, path, attempt):
-        """The durations of a policy's attempts and its bounds, for each, outermost first; and those of the whole, which
-        counts calls at the bottom. `attempt` has the durations of these calls, or None."""
-        found, most = [], 1
+    def bounds(self, path, driver):
+        """What runs a policy and its bounds, for each, outermost first; and the bounds of the whole, which counts calls
+        at the bottom. `driver` runs the last policy."""
+        found, most, attempt = [], 1, driver.attempt
         for level in reversed(range(len(self.names))):
             limit = self.limits[level] if level + 1 < len(self.names) else None
             if found:
@@ -98,18 +98,11 @@ class Layers:
                 attempt = (attempt[0], run) if run is not None and run <= LAST_MOMENT else None
             if limit and found:
                 attempt = (min(attempt[0], limit), min(attempt[1], limit)) if attempt else (1, limit)
-            bound = bounding.of_policies(path, [self.given.read[level]], attempt)[0]
+            driver = driver._replace(attempt=attempt)
+            bound = bounding.of_policies(path, [self.given.read[level]], [driver])[0]
             most = most * bound.most if None not in (most, bound.most) else None
-            found.insert(0, (attempt, bound))
+            found.insert(0, (driver, bound))
         return found, replace(found[0][1], most=most)
-
-
-def of_attempts(attempt):
-    """The durations of attempts in words."""
-    if attempt is None:
-        return ""
-    return f" of at most {duration(attempt[1])}" if attempt[0] == 1 else " of " + " to ".join(
-        dict.fromkeys(map(duration, attempt)))
 
 
 def show(layers, call, found, whole, every):
@@ -120,13 +113,13 @@ def show(layers, call, found, whole, every):
     def line(name, what, scope="", proved=""):
         print(f"{name:<{widest}}{what}" + (f"\n{'':{widest}}{mark}{every}{scope}: {proved}" if found else ""))
     for level, name in enumerate(layers.names):
-        below, attempt, bound = layers.names[level + 1:level + 2], *(found[level] if found else (None, None))
-        scope = f" and calls of {below[0]}" if below else " and attempts" if attempt else ""
-        line(name, inner.tried.line(), scope + of_attempts(attempt), bound and bound.line())
+        below, driver, bound = layers.names[level + 1:level + 2], *(found[level] if found else (None, None))
+        scope = driver and driver.words(f"calls of {below[0]}" if below else "attempts", bool(below))
+        line(name, inner.tried.line(), scope, bound and bound.line())
         inner = inner.attempts[0][1]
     most = whole and ("no limit of" if whole.most is None else f"at most {whole.most}")
     line("the whole", f"{call.tried.how} {call.tried.result}".strip() + f" after {plural(call.bottom(), 'call')}"
-         f" at the bottom, {duration(call.ms)}", " and calls at the bottom" * bool(attempt) + of_attempts(attempt),
+         f" at the bottom, {duration(call.ms)}", found and found[-1][0].words("calls at the bottom"),
          whole and f"{most} calls at the bottom{whole.end()}")
 
 
