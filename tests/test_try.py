@@ -11,7 +11,7 @@ from hypothesis import strategies as st
 import bounds as interval_run
 from reports import jobs_of
 from support import TOP, examples, run, run_here
-from zsched_tools import bounding, program, schedule_rules, trials
+from zsched_tools import bounding, drawn, program, schedule_rules, trials
 from zsched_tools.drawn import Policy
 from zsched_tools.durations import milliseconds
 from zsched_tools.policy import explaining
@@ -65,14 +65,47 @@ def test_the_documents_show_runs_as_they_are(words, lines, zsched, bounds):
     """Those that test_readme.py runs with unproved programs too, here with these."""
     lines = re.sub(r"^zsched-try: takes .*\n|^unproved: ", "", lines, flags=re.M)
     status, output, errors = tool(*shlex.split(words), "--zsched", zsched, "--bounds", bounds)
-    assert output + errors == lines and "for every input" in lines
+    drawn = re.match("zsched-try: .* draws .*\n|", lines)[0]
+    assert errors.startswith(drawn) and drawn + output + errors.removeprefix(drawn) == lines and "for every " in lines
 
 
-def test_the_help_shows_a_run_as_it_is_and_the_documents_five(zsched, bounds):
+def test_the_help_shows_a_run_as_it_is_and_the_documents_six(zsched, bounds):
     status, output, _ = tool("--help")
     policy, line, every = re.search(r"\$ zsched-try '(.+)'\n +(.+\n) +(.+\n)", output).groups()
     assert tool(policy, "--zsched", zsched, "--bounds", bounds) == (0, line + every, "")
-    assert len(SHOWN) == 5
+    assert len(SHOWN) == 6
+
+
+RANDOM = """(exponential(10) && recurs(6)) jitter full
+((linear(30) && recurs(9)) && elapsed.whileOutput(< 300)) jitter equal
+(fibonacci(20) && elapsed.whileOutput(<= 400)) jitter 20%
+((spaced(33) || exponential(5)) && recurs(8)).whileInput(!= 7) jitter 1/3..3/2
+spaced(41).whileInput(!= 7) jitter 12.5%
+((exponential(10) jitter 50% || spaced(70)) && recurs(7))
+(spaced(9) jitter full && fixed(25))
+((spaced(50) jitter 1/3..1/2 || windowed(40)) && elapsed.whileOutput(< 500))
+((exponential(8) && recurs(3)) jitter full andThenEither (spaced(60) && recurs(2)))
+(spaced(40) jitter equal && elapsed).whileOutput(_2 < 350)
+((spaced(40) && recurs(4)) jitter full && elapsed).resetWhen(_2 >= 60).whileOutput(_2 < 500)
+((spaced(rand(7, 30)) && recurs(5)) || (linear(rand(3, 9)) && elapsed.whileOutput(< 200)))
+(jitter(10, 90, 6) && decorrelated(20, 9))
+(exponential(rand(2, 9)) && recurs(rand(2, 5)))""".splitlines()
+
+
+@pytest.mark.parametrize("text", RANDOM)
+def test_each_drawn_run_keeps_the_bounds_that_are_said_of_all(text, zsched, bounds):
+    """The policy gives up by its error code 7 in some runs, and attempts take from 2 to 15 ms."""
+    chance, policy = random.Random(text), Policy(text, str(zsched))
+    jobs = [(f"job{seed}", policy.schedule(drawn.seeded(seed)), [
+        (chance.randint(2, 15), "err", chance.choice([5, 5, 5, 5, 7])) for _ in range(999)])
+        for seed in range(examples(100))]
+    said = bounding.of_policies(bounds, [policy], [bounding.Driver((2, 15))])[0]
+    report = run(zsched, trials.plan_of(9000, "retry", jobs).encode())[1]
+    for found in trials.tried_in(report):
+        assert said.least <= found.attempts or found.how == "unfinished"
+        known = [(said.most, found.attempts), (said.longest, found.longest), (said.total, found.waited), (said.run, found.at)]
+        assert all(most is None or it <= most for most, it in known), (found, said)
+    assert (said.longest > program.LAST_MOMENT) == (text == RANDOM[-1])
 
 
 def test_each_part_of_a_schedule_has_a_line():

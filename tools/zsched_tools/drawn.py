@@ -147,6 +147,11 @@ class Policy:
         return [piece.spelled if piece.draw is None else piece.draw and piece.draw(next(parts), most)
                 for piece in self.pieces]
 
+    def numbers(self, source):
+        """The numbers of a draw, as texts."""
+        drawn = [text for piece, text in zip(self.pieces, self.texts(source)) if piece.draw]
+        return [number for text in drawn for number in re.findall(r"(?:spaced\(|^)(\d+)", text)]
+
     def schedule(self, source, most=None):
         """The schedule with the draws of a source. With `most` it may have only so many of its drawn waits."""
         return "".join(self.texts(source, most))

@@ -22,12 +22,15 @@ from zsched_tools.words import duration, plural
 TOOL = "zsched-try"
 # What --require-end takes for the limit of the call in a policy's config.
 OWN = "@"
+# That many drawn numbers are shown; --plan has all.
+MOST_SHOWN = 10
 # The program's status if it is out of memory or of threads.
 NO_MEMORY = 4
 DESCRIPTION = """Runs policies from the command line, all on the same attempts, and prints a line for each: how it ends,
 after how many attempts and when, and how long it waits. If zsched-bounds is there, a second line says what the policy
 does for every input and every duration of attempts, until it gives up. That line is proved, unless it begins with
-`unproved:`. With --attempt it also says when the whole call ends.
+`unproved:`. With --attempt it also says when the whole call ends, with --late and --asked also on late timers and if
+waits that a service asks for are honoured.
 
   $ zsched-try '(exponential(100) && recurs(5))'
   failed 503 after 6 attempts, 3.34 s (waited 3.1 s, longest wait 1.6 s)
@@ -42,7 +45,7 @@ duration is a number of milliseconds, or has a unit: 40, 40ms, 1.5s, 2min, 1h30m
 many tasks.
 
 A policy is a schedule, or one of these, and standard error shows the schedule that it becomes. Random waits are drawn
-with --seed. docs/FORMATS.md says what then holds for every draw.
+with --seed: standard error has the first ten, --plan all. docs/FORMATS.md says what then holds for every draw.
 
   @service.yaml#checkout                      the policy that `zsched-policy import service.yaml` finds
   delays(1s, 1.5s, 2.25s)                     these waits, one after another
@@ -271,10 +274,13 @@ def tried(tool, given, is_plan=False):
         report = plan if is_plan else _run(tool, given, plan.encode())
     except FaultAt as fault:
         return _wrong(tool, given, fault.cause)
-    for policy, schedule in zip(given.read, given.schedules):
+    for policy in given.read:
         policy.show(tool, given.attempt is None or (getattr(given, "over", []) and policy is not given.read[-1]))
         if policy.is_drawn:
-            print(f"{tool}: {policy.text} with the seed {given.seed} is {schedule}", file=sys.stderr)
+            numbers = policy.numbers(seeded(given.seed))
+            many = f" .. ({len(numbers)} in all)" if len(numbers) > MOST_SHOWN else ""
+            drawn = ", ".join(numbers[:MOST_SHOWN]) or "nothing"
+            print(f"{tool}: {policy.text} with the seed {given.seed} draws {drawn}{many}", file=sys.stderr)
     return report
 
 
