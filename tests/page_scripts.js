@@ -10,7 +10,7 @@ const MOST_ATTEMPTS = 2100;
 const MOST_OF_A_CLIENT = 100000;
 const FIELDS = { a: "recurs(3)", b: "", mode: "retry", world: "script", script: "5 err 7, 5 ok 1", until: "1s",
   start: "", clients: "20", spread: "10s", capacity: "", down: "5s..35s", bad: "50 err 503", good: "40 ok 200",
-  seed: "1", attempt: "" };
+  seed: "1", attempt: "", late: "", asked: "" };
 
 const text = fs.readFileSync(process.argv[2], "utf8");
 const named = vm.runInThisContext;
@@ -47,10 +47,12 @@ globalThis.page = {
     const part = policy.isPart ? ["without bounds"] : [];
     return [policy.name, ...policy.becomes(), ...part, ...policy.isDrawn ? draws : []];
   },
-  // What holds for every input of a schedule and attempts of these durations, in numbers and in words.
-  bounds: (schedule, steps = null, attempt = [1, null]) =>
-    named("bounding").boundsOf(schedule, steps, attempt.map(it => it && BigInt(it))),
-  everyInput: (...given) => named("it => `${bounding.scope(it.attempt)}: ${bounding.words(it)}`")(page.bounds(...given)),
+  // What holds for every input of a schedule, attempts of these durations and these waits, in numbers and in words.
+  bounds: (schedule, steps = null, attempt = [1, null], waits = [100, 100, 0, 0]) => {
+    const [durations, shares] = [attempt, waits].map(list => list.map(it => it === null ? null : BigInt(it)));
+    return named("bounding").boundsOf(schedule, steps, { attempt: durations, waits: shares });
+  },
+  everyInput: (...given) => named("it => `${bounding.scope(it.driver)}: ${bounding.words(it)}`")(page.bounds(...given)),
 };
 
 function called(line) {

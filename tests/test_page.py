@@ -92,11 +92,13 @@ PLANNED = {job["schedule"] for path in plans_with_reports() for job in json.load
 def test_bounds_are_those_of_the_interval_run(page, texts, least, steps=120):
     short = [text for text in texts if len(text) < 2000]
     for text in short:
-        durations = random.Random(text).choice(bounds.DURATIONS)
-        found, wanted = page("page.bounds", text, steps, durations), bounds.bounds(
-            reference.read_schedule(text.encode()), durations, steps)
-        numbers = [found[key] and int(found[key]) for key in ["longest", "total", "run", "seen", "least", "most"]]
-        assert [found["isEndless"], *numbers] == [*list(wanted.values())[2:], *wanted["attempts"].values()], text
+        durations, waits = (random.Random(text).choice(it) for it in (bounds.DURATIONS, bounds.WAITS))
+        found = page("page.bounds", text, steps, durations, [None if it == bounds.MOST else it for it in waits])
+        wanted = bounds.bounds(reference.read_schedule(text.encode()), durations, steps, waits)
+        keys = {"longest": "longest_wait", "total": "total_wait", "run": "longest_run", "seen": "steps_seen"}
+        assert {it: found[it] and int(found[it]) for it in [*keys, "least", "most"]} == {
+            it: wanted[key] for it, key in keys.items()} | wanted["attempts"], (text, durations, waits)
+        assert found["isEndless"] == wanted["never_gives_up"], text
         assert found["isCut"] or wanted["attempts"]["most"] is not None or wanted["steps_seen"] < steps, text
     assert len(short) > least
 
@@ -239,7 +241,7 @@ def test_the_page_loads_nothing_from_elsewhere_and_says_what_its_evaluator_is():
     assert re.findall(r"https?:|//[a-z]|@import|url\(", TEXT.replace("// ", "")) == []
     assert set(re.findall(r'\b(?:src|href)="([^"]*)"', TEXT)) == {"data:,"}
     assert re.search("Content-Security-Policy\"\\s+content=\"default-src 'none'; ", TEXT)
-    assert re.findall(r"fetch\((.*?),", TEXT) == ['`/report${attempt ? `?attempt=${attempt.join("..")}` : ""}`']
+    assert re.findall(r"fetch\((.*?),", TEXT) == ["`/report?${query}`"]
     assert "a separate implementation of zsched, unproved and in" in TEXT
 
 
@@ -247,7 +249,7 @@ def test_every_field_has_a_label_and_a_place_for_its_fault():
     named = set(re.findall(r'<label for="(\w+)"', TEXT))
     defaults = re.search(r"const DEFAULTS = \{(.*?)\};", TEXT, re.S)[1]
     fields = set(re.findall(r'<(?:input|textarea|select) id="(\w+)"', TEXT))
-    assert named == fields == set(re.findall(r'(\w+): "', defaults)) and len(named) == 15
+    assert named == fields == set(re.findall(r'(\w+): "', defaults)) and len(named) == 17
     assert set(re.findall(r'id="(\w+)-fault"', TEXT)) == (named | {"plan"}) - {"world"}
 
 
@@ -301,6 +303,17 @@ def test_a_browser_shows_the_first_example():
     assert "unproved: for every input: 11 attempts, always; waits of at most 2 s, 13.1 s in all" in document
     assert "end failed 503 at 13540 polls 22" in inside(document, "report")
     assert re.search(r'<div id="picture"[^>]*><svg ', document) and 'class="fault shown"' not in document
+
+
+@pytest.mark.full
+def test_a_browser_says_what_holds_for_every_draw_with_late_timers_and_waits_on_request():
+    """1.65 s after each of five failures, and six attempts of 5 s; of a part that is drawn nothing is said."""
+    document = shown(a="(exponential(100) && recurs(5)) jitter full", b="(spaced(rand(1, 2)) && recurs(5))",
+                     attempt="5s", late="50ms", asked="1600ms")
+    assert re.findall("unproved: for every [^<]*", document) == [
+        "unproved: for every draw and input and attempts of at most 5 s that begin up to 50 ms late and Retry-After of "
+        "up to 1.6 s: 6 attempts, always; waits of at most 1.65 s, 8.25 s in all; ends within 38.25 s"]
+    assert re.search('id="late-fault"[^>]*>.*no duration|is not a duration', inside(shown(late="soon"), "form"))
 
 
 @pytest.mark.full

@@ -59,6 +59,12 @@ def request(url, method, path="/", body=None, **headers):
         return response.status, response.headers, response.read()
 
 
+def wanted(schedules, attempt=(1, None), waits=(0, 0)):
+    """What a page asks for, with whole waits."""
+    policies = [[it, 100, 100] for it in schedules]
+    return json.dumps({"attempt": attempt, "waits": [100, 100, *waits], "policies": policies})
+
+
 def asked(url, text, path="/report"):
     status, _, body = request(url, "POST", path, text)
     assert status == 200, body
@@ -68,13 +74,18 @@ def asked(url, text, path="/report"):
 @pytest.mark.parametrize("path", sorted(TOP.glob("examples/*.json"))[:8], ids=lambda path: path.stem)
 def test_the_report_is_that_of_the_program(url, path):
     found, report = asked(url, path.read_bytes()), path.with_name(f"{path.name}.stdout").read_text()
-    assert found == {"report": report, "size": len(report), "bounds": found["bounds"], "proved": found["proved"]}
+    assert found == {"report": report, "size": len(report), "bounds": []}
 
 
 def test_the_page_says_what_holds_for_every_input(url):
-    policy, said = "(exponential(100) && recurs(5))", "6 attempts, always; waits of at most 1.6 s, 3.1 s in all"
-    for query, end in [("", ""), ("?attempt=1..5000", "; ends within 33.1 s"), ("?attempt=5", ""), ("?other=1..5", "")]:
-        assert asked(url, question(policy), f"/report{query}")["bounds"] == {policy: said + end}
+    policy, said = "(exponential(100) && recurs(5))", "6 attempts, always; waits of at most "
+    for attempt, waits, end in [([1, None], [0, 0], "1.6 s, 3.1 s in all"),
+                                ([1, 5000], [0, 0], "1.6 s, 3.1 s in all; ends within 33.1 s"),
+                                ([1, 5000], [50, 900], "1.65 s, 5.45 s in all; ends within 35.45 s")]:
+        query = urllib.parse.quote(wanted([policy], attempt, waits))
+        assert asked(url, question(policy), f"/report?{query}")["bounds"] == [said + end]
+    for query in ["", "?", "?5", "?%7B%7D", f"?{urllib.parse.quote(wanted(['recurs'], [1, 5], [0, 0]))}"]:
+        assert asked(url, question(policy), f"/report{query}")["bounds"] == []
 
 
 @pytest.fixture(params=["", "unproved: "], ids=["proved", "unproved"])
@@ -87,17 +98,18 @@ def marked(request, bounds, tmp_path):
 
 
 def test_bounds_of_an_unproved_program_say_so(zsched, marked):
-    assert command.answer(zsched, question("recurs(3)"), 10, marked[0])["proved"] is not bool(marked[1])
+    found = command.answer(zsched, question("recurs(3)"), 10, marked[0], wanted([]))
+    assert found["proved"] is not bool(marked[1])
 
 
 # The status of the program of bounds, or null for none, the policies, and what is said of them.
-@pytest.mark.parametrize("name, status, schedules, wanted", rows("left_out_bounds.jsonl"))
-def test_bounds_are_left_out_if_there_are_none(zsched, tmp_path, name, status, schedules, wanted):
+@pytest.mark.parametrize("name, status, schedules, said", rows("left_out_bounds.jsonl"))
+def test_bounds_are_left_out_if_there_are_none(zsched, tmp_path, name, status, schedules, said):
     line = ('{"policy":"","attempt":{"least":1,"most":null},"attempts":{"least":4,"most":4},"never_gives_up":false,'
             '"longest_wait":0,"total_wait":0,"longest_run":null,"steps_seen":4}')
     bounds = None if status is None else executable(tmp_path / "bounds",
                                                     f"cat > /dev/null\necho '{line}'\nexit {status}")
-    assert command.answer(zsched, question(schedules=schedules), 10, bounds)["bounds"] == wanted
+    assert command.answer(zsched, question(schedules=schedules), 10, bounds, wanted(schedules))["bounds"] == said
 
 
 # A schedule that is rejected, the place and size of the mark, and words of the cause or the help.

@@ -103,8 +103,8 @@ def test_each_drawn_run_keeps_the_bounds_that_are_said_of_all(text, zsched, boun
     report = run(zsched, trials.plan_of(9000, "retry", jobs).encode())[1]
     for found in trials.tried_in(report):
         assert said.least <= found.attempts or found.how == "unfinished"
-        known = [(said.most, found.attempts), (said.longest, found.longest), (said.total, found.waited), (said.run, found.at)]
-        assert all(most is None or it <= most for most, it in known), (found, said)
+        known = [(found.attempts, said.most), (found.longest, said.longest), (found.waited, said.total)]
+        assert all(most is None or it <= most for it, most in [*known, (found.at, said.run)]), (found, said)
     assert (said.longest > program.LAST_MOMENT) == (text == RANDOM[-1])
 
 

@@ -11,6 +11,7 @@ import signal
 import subprocess
 import sys
 import tempfile
+import urllib.parse
 
 from zsched_tools import bounding, command, faults, hints, plan_size, program, starting
 
@@ -56,22 +57,22 @@ def run(zsched, plan, seconds):
         return child.returncode, report.read(LONGEST_REPORT + 1), size, errors
 
 
-def every_input(bounds, plan, attempt):
-    """The bounds by this zsched-bounds of each schedule of a plan, with these durations of attempts, and whether the
-    program was proved, if the plan has no more schedules than the page has policies. If the program fails, the report
-    is shown without bounds."""
-    schedules = list({job["schedule"] for job in json.loads(plan)["jobs"]})
-    if bounds is None or len(schedules) > MOST_POLICIES:
-        return {"bounds": {}}
+def every_input(bounds, asked):
+    """The bounds by this zsched-bounds of the policies that a page asks for, with its driver, and whether the program
+    was proved. A policy is a schedule and two percentages of its waits, or none. If the program fails, the report is
+    shown without bounds."""
     try:
-        found = bounding.run(bounds, schedules, bounding.Driver(attempt), seconds=SECONDS)
-        return {"bounds": {schedule: it.line() for schedule, it in zip(schedules, found)},
-                "proved": program.is_proved(bounds)}
-    except (OSError, subprocess.TimeoutExpired):
-        return {"bounds": {}}
+        read = json.loads(asked)
+        least, most = read["attempt"]
+        driver = bounding.Driver(most and (least, most), *read["waits"][2:])
+        found = [it and bounding.run(bounds, [it[0]], driver, it[1:], SECONDS)[0].line()
+                 for it in read["policies"][:MOST_POLICIES]] if bounds else []
+        return {"bounds": found, "proved": bool(bounds) and program.is_proved(bounds)}
+    except (OSError, ValueError, LookupError, TypeError, subprocess.TimeoutExpired):
+        return {"bounds": []}
 
 
-def answer(zsched, plan, seconds, bounds=None, attempt=None):
+def answer(zsched, plan, seconds, bounds=None, asked=""):
     """What the page shows for the bytes of a plan: the report and what holds for every input, or the fault."""
     many = plan_size.warning(plan, MOST_ATTEMPTS)
     if many:
@@ -92,7 +93,7 @@ def answer(zsched, plan, seconds, bounds=None, attempt=None):
         first = said.partition("\n")[0] or f"status {status} and no report"
         cause = f"{first} ({MEMORY >> 20} MB are given to it)"
         return {"fault": {"field": "until", "cause": cause, "help": SMALLER}}
-    return {**shown(report, size), **every_input(bounds, plan, attempt)}
+    return {**shown(report, size), **every_input(bounds, asked)}
 
 
 def placed(plan, said):
@@ -180,9 +181,8 @@ class Handler(http.server.BaseHTTPRequestHandler):
 
     def give_answer(self):
         plan = self.rfile.read(int(self.headers["Content-Length"]))
-        said = re.fullmatch(r"attempt=([0-9]{1,15})\.\.([0-9]{1,15})", self.path.partition("?")[2])
-        attempt = said and tuple(map(int, said.groups()))
-        found = answer(self.server.zsched, plan, self.server.seconds, self.server.bounds, attempt)
+        asked = urllib.parse.unquote(self.path.partition("?")[2])
+        found = answer(self.server.zsched, plan, self.server.seconds, self.server.bounds, asked)
         self.give(200, "application/json", json.dumps(found).encode())
 
     def give(self, status, kind, body):

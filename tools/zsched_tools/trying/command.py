@@ -342,7 +342,7 @@ def add_attempts(parser):
     parser.add_argument("--attempt", type=_durations, metavar="TIME",
                         help="the greatest duration of an attempt: 5s; with the least one: 20ms..5s. It is also that "
                              "of the attempts of this run, unless --fails or --then say another")
-    parser.add_argument("--late", type=lambda word: None if word == "any" else _time(0)(word), default=0, metavar="TIME",
+    parser.add_argument("--late", type=lambda it: None if it == "any" else _time(0)(it), default=0, metavar="TIME",
                         help="how late an attempt may begin after its wait, for every input: 50ms, or any time: any")
     parser.add_argument("--asked", type=_time(0), default=0, metavar="TIME",
                         help="the longest wait that is honoured if the service asks for it, as by Retry-After, for "
