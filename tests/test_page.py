@@ -313,7 +313,7 @@ def test_a_browser_says_what_holds_for_every_draw_with_late_timers_and_waits_on_
     assert re.findall("unproved: for every [^<]*", document) == [
         "unproved: for every draw and input and attempts of at most 5 s that begin up to 50 ms late and Retry-After of "
         "up to 1.6 s: 6 attempts, always; waits of at most 1.65 s, 8.25 s in all; ends within 38.25 s"]
-    assert re.search('id="late-fault"[^>]*>.*no duration|is not a duration', inside(shown(late="soon"), "form"))
+    assert '"soon" is not a duration' in inside(shown(a="recurs(3)", late="soon"), "late-fault")
 
 
 @pytest.mark.full
