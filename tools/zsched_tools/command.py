@@ -2,10 +2,10 @@
 import argparse
 import contextlib
 import errno
-import functools
 import io
 import os
 import pathlib
+import re
 import shutil
 import signal
 import sys
@@ -68,10 +68,24 @@ def version():
     return "unknown"
 
 
+class Parser(argparse.ArgumentParser):
+    """A parser that shows its texts as they are, and what is wrong before the usage."""
+
+    def __init__(self, **words):
+        super().__init__(formatter_class=argparse.RawDescriptionHelpFormatter, **words)
+
+    def error(self, message):
+        from zsched_tools.generated import flags_of
+        from zsched_tools.hints import near
+        unknown = re.match("unrecognized arguments: (--[a-z-]+)", message)
+        meant = unknown and unknown[1] not in flags_of(self) and near(unknown[1], flags_of(self))
+        help = f": did you mean {meant}?" if meant else ""
+        self.exit(REFUSED, f"{self.prog}: {message}{help}\n{self.format_usage()}")
+
+
 def parser(tool, about, epilog=None):
-    """The parser of a command, which shows both texts as they are."""
-    return argparse.ArgumentParser(prog=tool, description=about, epilog=epilog,
-                                   formatter_class=argparse.RawDescriptionHelpFormatter)
+    """The parser of a command."""
+    return Parser(prog=tool, description=about, epilog=epilog)
 
 
 def add_version(parser):
@@ -83,10 +97,15 @@ def add_version(parser):
 
 def complete(parser):
     """The parser of a command, with the options that all commands have."""
-    parser.add_argument("--color", choices=["auto", "always", "never"], default="auto", metavar="WHEN",
-                        help="colours: auto (on a terminal, unless NO_COLOR is set), always or never")
+    add_color(parser, "auto")
     add_version(parser)
     return parser
+
+
+def add_color(parser, default=argparse.SUPPRESS):
+    """Adds --color to the options of a command, or of one of its forms."""
+    parser.add_argument("--color", choices=["auto", "always", "never"], default=default, metavar="WHEN",
+                        help="colours: auto (on a terminal, unless NO_COLOR is set), always or never")
 
 
 def script(parser, work):
@@ -110,10 +129,12 @@ class Paint:
 
 def forms(tool, description, epilog, metavar):
     """The parser of a command of several forms, and what adds a form, by `add_parser`."""
-    made = functools.partial(argparse.ArgumentParser, epilog=epilog,
-                             formatter_class=argparse.RawDescriptionHelpFormatter)
-    whole = complete(made(prog=tool, description=description))
-    return whole, whole.add_subparsers(required=True, metavar=metavar, parser_class=made)
+    def form(**words):
+        made = Parser(**{"epilog": epilog} | words)
+        add_color(made)
+        return made
+    whole = complete(parser(tool, description, epilog))
+    return whole, whole.add_subparsers(required=True, metavar=metavar, parser_class=form)
 
 
 def number(least, most, words):
@@ -171,9 +192,14 @@ def read(path, most=-1):
 
 
 def write(path, data):
-    """Writes a file: a text or bytes."""
+    """Writes a file, a text or bytes; - is standard output."""
+    data = data.encode() if isinstance(data, str) else data
+    if path == "-":
+        sys.stdout.flush()
+        sys.stdout.buffer.write(data)
+        return
     with naming(path), open(path, "wb") as file:
-        file.write(data.encode() if isinstance(data, str) else data)
+        file.write(data)
 
 
 @contextlib.contextmanager

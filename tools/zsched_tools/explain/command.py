@@ -1,5 +1,4 @@
 """The command zsched-explain: runs the program on a plan, and shows the place of its fault in the plan."""
-import argparse
 import sys
 
 from zsched_tools import command, faults, place, plan_size, program, starting
@@ -28,17 +27,8 @@ TOOL = "zsched-explain"
 MOST_FAULTS = 10
 
 
-class Words(argparse.ArgumentParser):
-    """The command's arguments."""
-
-    def error(self, message):
-        """Exits with status 2, and writes what is wrong with the arguments."""
-        self.exit(2, f"{self.prog}: {message}\n{self.format_usage()}")
-
-
 def words():
-    found = Words(prog="zsched-explain", description=ABOUT, epilog=STATUSES,
-                  formatter_class=argparse.RawDescriptionHelpFormatter)
+    found = command.parser(TOOL, ABOUT, STATUSES)
     found.add_argument("plan", nargs="?", default="-", metavar="PLAN.json",
                        help="the plan's file; standard input by default, or if it is -")
     found.add_argument("--zsched", metavar="PATH",

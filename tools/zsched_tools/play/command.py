@@ -1,6 +1,5 @@
 """Serves a page on this machine. You type schedules and what their attempts do, and see the picture and the report, or
 the fault with its place. It is docs/play.html, with reports by zsched. It loads and sends nothing elsewhere."""
-import argparse
 import bisect
 import http.server
 import itertools
@@ -233,9 +232,8 @@ def serve(given):
 
 
 def arguments():
-    words = argparse.ArgumentParser(
-        prog="zsched-play", description=__doc__,
-        epilog="Ctrl-C ends it, with status 0. Status 2: a wrong argument, no program, or a port that isn't free.")
+    words = command.parser("zsched-play", __doc__, "Ctrl-C ends it, with status 0. Status 2: a wrong argument, no "
+                           "program, or a port that isn't free.")
     port = command.number(0, 65535, "{} is not a port: 0 to 65535")
     words.add_argument("--port", type=port, default=PORT, help=f"the port ({PORT}); 0 picks a free one")
     words.add_argument("--zsched", metavar="PATH", help="the program (ZSCHED, or the one that is built or on PATH)")
