@@ -273,7 +273,8 @@ def arguments():
     parser.add_argument("-o", dest="folder", metavar="FOLDER",
                         help="a new or empty folder for plans, reports and curves")
     parser.add_argument("--svg", metavar="FILE", help="a picture of the curves under one axis; - in place of the table")
-    parser.add_argument("--html", metavar="FILE", help="a page with the picture and the table, for any width; -: as with --svg")
+    parser.add_argument("--html", metavar="FILE",
+                        help="a page with the picture and the table, for any width; - in place of the table")
     parser.add_argument("--json", action="store_true", help="print one object in place of the table")
     parser.add_argument("--max-peak", type=_peak, metavar="N[/TIME]",
                         help="the most attempts that may begin within a second, or within TIME, as 50/100ms")

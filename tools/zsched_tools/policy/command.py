@@ -16,7 +16,7 @@ from zsched_tools.policy.telling import canonical, told_apart
 from zsched_tools.program import LAST_MOMENT
 from zsched_tools.reports import attempts_in, blocks_of
 from zsched_tools.trials import tried_in
-from zsched_tools.trying.command import add_attempts, add_programs, attempt_of, bounds_of_all, entries_of, of_all, tried
+from zsched_tools.trying.command import add_attempts, add_programs, bounds_of_all, driver_of, entries_of, of_all, tried
 from zsched_tools.words import duration, listed, plural, shown
 
 TOOL = "zsched-policy"
@@ -188,7 +188,7 @@ def _diff(given):
     lines = [*filter(None, [_here(*found)]), *itertools.islice(_first(blocks_of(report)), 1),
              *([] if None in bounds else map(bounding.mark(*bounds).__add__, _always(scope, *bounds)))]
     if not lines and len(set(map(canonical, given.read))) > 1:
-        first, limits = entries_of(given, given.read[0])[0], attempt_of(given, given.read[0]) or (1, LAST_MOMENT)
+        first, limits = entries_of(given, given.read[0])[0], driver_of(given, given.read[0]).attempt or (1, LAST_MOMENT)
         lines = told_apart(program.find(given.zsched), given.read, given.mode, first, limits, given.seed)
     lines += _settings(*given.read)
     print("\n".join(lines) or "no difference")

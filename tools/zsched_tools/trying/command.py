@@ -101,19 +101,14 @@ def _count(most):
     return command.number(0, most, f'"{{}}" is not a whole number up to {most}')
 
 
-def attempt_of(given, policy):
-    """The least and the greatest duration of a policy's attempts, by --attempt or its config, or None."""
-    return given.attempt or (policy.timeout and (1, policy.timeout))
-
-
 def driver_of(given, policy):
-    """What runs a policy in service, by the options and its config."""
-    return Driver(attempt_of(given, policy), given.late, given.asked)
+    """What runs a policy in service, by the options, or the limit of an attempt in its config."""
+    return Driver(given.attempt or (policy.timeout and (1, policy.timeout)), given.late, given.asked)
 
 
 def entries_of(given, policy):
     """The entries of the script of a policy. Its attempts take as long as its own limit, whatever others have."""
-    limits = attempt_of(given, policy)
+    limits = driver_of(given, policy).attempt
     longest = limits and limits[1]
     for option, entry in [("--fails", given.fails), ("--then", given.then)]:
         if entry and limits and not limits[0] <= entry[0] <= longest:
@@ -162,16 +157,16 @@ def _not_proved(given, policy, bounds):
 def bounds_of_all(given):
     """The bounds of the policies for every input; None for each if zsched-bounds isn't found and isn't required."""
     path, drivers = _bounds_path(given), [driver_of(given, policy) for policy in given.read]
-    _check_end(given, given.read, [it.attempt for it in drivers])
+    _check_end(given, given.read, drivers)
     return bounding.of_policies(path, given.read, drivers) if path else [None] * len(given.read)
 
 
-def _check_end(given, policies, attempts):
+def _check_end(given, policies, drivers):
     """Rejects a required end without the limit that it takes, or without that of an attempt."""
     end = getattr(given, "require_end", None)
     if end == OWN and (without := [it.text for it in policies if not it.deadline]):
         raise Refused(f"--require-end @ takes the limit of the call that a config has, and {without[0]} has none")
-    if end is not None and None in attempts:
+    if end is not None and any(it.attempt is None for it in drivers):
         raise Refused("--require-end needs --attempt TIME, the greatest duration of an attempt")
 
 
@@ -314,12 +309,12 @@ def _work_over(given):
     outer, bottom = given.read[0], given.read[-1]
     limits, entries = [it.timeout for it in given.read], entries_of(given, bottom)
     made = layers.Layers(program.find(given.zsched), given, limits, entries)
-    call, path = made.call(), _bounds_path(given)
-    _check_end(given, [outer], [attempt_of(given, bottom)])
+    call, path, driver = made.call(), _bounds_path(given), driver_of(given, bottom)
+    _check_end(given, [outer], [driver])
     if given.plan:
         print(made.plan(call).decode(), end="")
         return 0
-    found, whole = made.bounds(path, driver_of(given, bottom)) if path else ([], None)
+    found, whole = made.bounds(path, driver) if path else ([], None)
     if given.svg:
         _draw(given, program.run_plan(made.zsched, made.plan(call)))
     else:
