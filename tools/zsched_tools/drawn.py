@@ -198,12 +198,14 @@ class Policy:
         If a part alone is drawn, no wait of the whole leaves the percentages up to 100 of that with the greatest draws:
         `&&`, `||` and andThenEither wait as long as one of their parts. What is drawn must have no other effect, on a
         count, on a number beside waits, or on an output that a test reads."""
+        if not self.is_drawn:
+            return self.spelled, (0, 100) if self.jitter else (100, 100)
         if self.is_whole:
             return "".join(it.spelled for it in self.pieces if it.draw != ""), self.pieces[1].share
         is_read = re.search(r"(?<!elapsed)\.(whileOutput|resetWhen)", self.spelled) is not None
         low, high = ("".join(it.spelled if it.share and it.share[1] == 100 and not is_read else text
                              for it, text in zip(self.pieces, self.texts(source))) for source in (LOW, HIGH))
-        lows = [100, *(it.share[0] for it in self.pieces if it.share), *[0] * bool(self.jitter)]
+        lows = [100, *(it.share[0] for it in self.pieces if it.share)]
         for least, most in zip(*map(schedule_rules.pieces, (low, high))):
             given = [[int(word[0]) for word in it.arguments if word[0].isdigit()] for it in (least, most)]
             if given[0] != given[1]:
