@@ -159,13 +159,13 @@ class Policy:
     def show(self, tool, is_limited=False):
         """Writes the schedule that the text becomes, and what that leaves out, to standard error. `is_limited` says
         that the config's limit of an attempt counts."""
+        limit = [f"the limit of an attempt, {duration(self.timeout)}"] if self.timeout else []
         lines = [f"is {self.spelled}"] if self.spelled != self.text[self.begin:] else []
-        if self.timeout:
-            limit = f"the limit of an attempt, {duration(self.timeout)}"
-            lines.append(f"has {limit}" if is_limited else f"leaves out {limit}")
+        lines += [f"has {it}" for it in limit if is_limited]
         if self.deadline:
             lines.append(f"has a limit of the call, {duration(self.deadline)}, which --require-end @ takes")
-        for line in [*lines, *(f"leaves out {what}" for what in self.left_out)]:
+        left_out = " | ".join([*([] if is_limited else limit), *self.left_out])
+        for line in [*lines, *([f"leaves out {left_out}"] if left_out else [])]:
             print(f"{tool}: {self.text} {line}", file=sys.stderr)
 
     def cause_at(self, source, cause):
