@@ -67,7 +67,7 @@ def every_input(bounds, asked):
         found = [it and bounding.run(bounds, [it[0]], driver, it[1:], SECONDS)[0].line()
                  for it in read["policies"][:MOST_POLICIES]] if bounds else []
         return {"bounds": found, "proved": bool(bounds) and program.is_proved(bounds)}
-    except (OSError, ValueError, LookupError, TypeError, subprocess.TimeoutExpired):
+    except (OSError, ValueError, LookupError, TypeError, RecursionError, subprocess.TimeoutExpired):
         return {"bounds": []}
 
 
