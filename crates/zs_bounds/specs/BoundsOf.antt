@@ -191,7 +191,7 @@ abbrev pub longest_time : Option ℕ → ℕ → ℕ
 longest_time None wait = max_tick
 longest_time (Some k) wait = min (saturated (wait + k)) max_tick
 
--- the waits of a driver where a schedule may have these
+-- the waits of a driver if a schedule may have these
 abbrev pub real_waits : Waits → Option Span → Option Span
 real_waits v None = None
 real_waits v (Some w) = Some (span (shortest_wait v w.low) (longest_wait v w.high))

@@ -40,7 +40,7 @@ pub record IsAttempt (d : Driver) (begun ended : ℕ) : Type 0 where
 
 -- If a schedule waits for w milliseconds, a driver may wait for u: no less than the least percent
 -- of w, rounded down, and no more than the most percent of it, rounded up, or than the longest wait
--- that it may be asked for, if that is longer. Then it may be late.
+-- that may be requested of it, if that is longer. Then it may be late.
 pub record IsWait (v : Waits) (w u : ℕ) : Type 0 where
   pub least : w * v.least_percent / 100 ≤ u
   pub most : u ≤ saturated (max (div_ceil (w * v.most_percent) 100) v.asked + v.late)

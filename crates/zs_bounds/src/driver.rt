@@ -45,8 +45,8 @@ impl Driver {
         Decisions::new(decision.stops, self.waits.real_waits(decision.waits))
     }
 
-    // A limit of all waits before a step that goes on, by a limit of the time from the first step up
-    // to it and the number of steps before it: each of these has an attempt after it.
+    // A limit of all waits before a step that goes on, by a limit of the time from the first step
+    // up to it and the number of steps before it: each of these has an attempt after it.
     pub(crate) fn waits_limit(self, limit: Option<u64>, steps: u64) -> Option<u64>
         ensures value { result ≡ waits_limit self limit steps }
     {

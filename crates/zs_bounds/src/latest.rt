@@ -64,7 +64,8 @@ pub(crate) fn wait_limit(term: &Term) -> Option<u64>
     }
 }
 
-// A limit of the waits of two parts of which the earlier moment counts, by which of them never stop.
+// A limit of the waits of two parts of which the earlier moment counts, by which of them never
+// stop.
 fn either_wait(a: bool, b: bool, first: Option<u64>, second: Option<u64>) -> Option<u64>
     ensures value { result ≡ either_wait a b first second }
 {

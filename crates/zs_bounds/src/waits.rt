@@ -13,9 +13,9 @@ pub struct Waits {
     /// No wait is shorter than this percentage of the schedule's, rounded down: 0 for full jitter.
     pub least_percent: u64,
     /// No wait is longer than this percentage of the schedule's, rounded up, unless a longer one is
-    /// asked for.
+    /// requested.
     pub most_percent: u64,
-    /// The longest wait that may be asked for in place of a shorter one, as by `Retry-After`, in
+    /// The longest wait that may be requested in place of a shorter one, as by `Retry-After`, in
     /// milliseconds.
     pub asked: u64,
     /// How much later than at the end of its wait an attempt may begin, in milliseconds. `u64::MAX`

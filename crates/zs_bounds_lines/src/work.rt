@@ -11,7 +11,7 @@ const WORK: u64 = 1_200_000;
 // The policy usually takes at most this number of steps.
 const STEPS: u64 = 20_000;
 
-// The number of nodes of a term, where `resetWhen` counts its part twice.
+// The number of nodes of a term. `resetWhen` counts its part twice.
 fn weight(term: &Term) -> u64
     requires within { weight (schedule_of term.now) ≤ max_weight }
     ensures value { result ≡ weight (schedule_of term.now) }

@@ -205,7 +205,8 @@ module _ (job : JobRecord) (ticks : List ℕ) (due : Option ℕ) (ending : Optio
     by = goes-asked later h end (ending_by_outcome job.mode end.outcome) some ends.2;
   }
 
--- how late a driver begins an attempt at s that is due at x; one with no most may take longer instead
+-- how late a driver begins an attempt at s that is due at x; one with no most may take longer
+-- instead
 abbrev pub lag : Driver → ℕ → ℕ → ℕ
 lag d x s = min (s - x) d.waits.late
 

@@ -46,8 +46,8 @@ abbrev pub TicksWithin : ℕ → ℕ → List ℕ → Type 0
 TicksWithin gap start ticks =
     (x t : ℕ) → start ≤ x → first_tick_from ticks x ≡ Some t → t ≤ x + gap
 
--- The first tick is at most `gap` after a moment, and each other one at most `gap` + 1 after the one
--- before.
+-- The first tick is at most `gap` after a moment, and each other one at most `gap` + 1 after the
+-- one before.
 abbrev pub AreApart : ℕ → ℕ → List ℕ → Type 0
 AreApart gap start [] = Unit {0}
 AreApart gap start (t ∷ ticks) = (t ≤ start + gap) × AreApart gap (t + 1) ticks
@@ -57,9 +57,10 @@ abbrev pub ApartAreWithin : Type 0
 ApartAreWithin =
     (gap start : ℕ) (ticks : List ℕ) → AreApart gap start ticks → TicksWithin gap start ticks
 
--- A job does on a clock what a driver d may do. No entry of its script is shorter than the least
--- attempt. With a most, ticks are at most `late` + 1 ms apart from the job's start on. So an attempt
--- begins at most `late` after its wait, and is seen to end at most `late` after its entry says.
+-- A job does on a clock what a driver d may do. No entry of its script is shorter than the
+-- least attempt. With a most, ticks are at most `late` + 1 ms apart from the job's start on. So an
+-- attempt begins at most `late` after its wait, and is seen to end at most `late` after its entry
+-- says.
 pub record Takes (d : Driver) (job : JobRecord) (ticks : List ℕ) : Type 0 where
   pub least : All (λ beat. shortest d ≤ beat.ms) job.script
   pub most : (k : ℕ) → d.most ≡ Some k

@@ -29,8 +29,8 @@ pub fn jobs_are_within_bounds()
 {}
 
 /// No attempt of a job ends later than the longest run after the job's start, if the schedule has
-/// one and the driver is never late. If it may be late, the job may begin so much later too. A clock
-/// that goes on to that moment sees the job end.
+/// one and the driver is never late. If it may be late, the job may begin so much later too. A
+/// clock that goes on to that moment sees the job end.
 pub fn jobs_end_in_time()
     // Any bounds that hold for the schedule.
     ensures promised { OnEachClock (ForDriver PromisedRunHolds) }
