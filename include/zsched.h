@@ -4,17 +4,18 @@
  * of pairs, oldest first: the moment at which an attempt ended, and its input (under retry the error's code, under repeat the
  * success value). zs_answer returns the moment at which the next attempt may begin, or that the schedule is done. No call
  * stores anything, so the list is the whole state: store it, and go on after a restart. If the list would grow too long, use
- * zs_compile and zs_program_step: a program and its state have a fixed size.
+ * zs_compile and zs_program_step: a program and its state have a fixed size. A loop that retries needs zs_plan alone, which
+ * steps a program and says when the next attempt begins.
  *
  * Link libzsched.a or libzsched.so, which build/make-library builds; both need only the C library. docs/LIBRARY.md says what
  * is proved of these calls.
  *
  * The caller must ensure what no call can test:
  *   - Each pointer points to as much memory as the number beside it says; zs_seen, zs_reply and words are aligned as C aligns
- *     them. If the number is 0, the pointer may be NULL. `durations`, `reply`, `bounds`, `at`, `size` and `state_size` are
- *     never NULL.
- *   - `reply`, `bounds`, `at`, `size`, `state_size`, `state`, `out` and the words that zs_compile writes overlap nothing else
- *     that is passed to the call, and no other thread writes to any of it during the call.
+ *     them. If the number is 0, the pointer may be NULL. `durations`, `turn`, `reply`, `bounds`, `at`, `size`, `state_size` and
+ *     `begin` are never NULL.
+ *   - `reply`, `bounds`, `at`, `size`, `state_size`, `state`, `begin`, `out` and the words that zs_compile writes overlap
+ *     nothing else that is passed to the call, and no other thread writes to any of it during the call.
  *   - No call comes from a signal handler, or from a forked child of a process with threads. 64 KiB of stack are free (the
  *     deepest schedule took 54), for zs_bounds 192 KiB (it took 115).
  *
@@ -48,8 +49,8 @@ enum zs_number {
     ZS_NO_MEMORY = 5,   /* an allocation failed; nothing is leaked, and the call may be repeated */
     ZS_KEEPS_LIST = 6,  /* zs_program_size, zs_compile: the schedule has collectAll, so its state would grow with the steps */
     ZS_NO_ROOM = 7,     /* calls over a program: a length is below the size from zs_program_size */
-    ZS_NO_PROGRAM = 8,  /* zs_program_begin, zs_program_step: the words aren't a program of this version, or were changed */
-    ZS_OTHER_STATE = 9, /* zs_program_step: the words are the state of another program, or of none */
+    ZS_NO_PROGRAM = 8,  /* zs_program_begin, zs_program_step, zs_plan: no program of this version, or one that was changed */
+    ZS_OTHER_STATE = 9, /* zs_program_step, zs_plan: the words are the state of another program, or of none */
     ZS_NO_DURATION = 10, /* zs_bounds: the least duration is 0, or above the most */
     ZS_NO_TERM = 11,    /* the text spells no schedule, found at the byte `at` */
     ZS_TOO_BIG = 12,    /* the schedule is deeper than 64 or weighs more than 1000 */
@@ -93,6 +94,17 @@ struct zs_bounds {
     uint64_t longest_run;     /* each attempt ends at most this long after the begin of the first, in milliseconds */
 };
 
+/* One failed attempt of a loop, by the loop's own clock: for zs_plan. The attempt may have begun and ended at any moment. */
+typedef struct zs_turn {
+    uint64_t began;   /* when the attempt began, in nanoseconds from the begin of the first attempt */
+    uint64_t ended;   /* when it ended; if it is below `began`, the clock fell, and counts as one that stood still */
+    uint64_t input;   /* the error's code, or any number */
+    uint64_t least;   /* the least wait that the service asked for, in milliseconds, or 0: Retry-After */
+    uint64_t longest; /* a least wait counts up to this, in milliseconds */
+    uint32_t percent; /* how many percent of the schedule's wait jitter may take off: 0 for none, above 100 counts as 100 */
+    uint32_t draw;    /* how much of that it takes off: 32 random bits, a fraction of 2^32 */
+} zs_turn;
+
 /* Whether a text is a schedule: ZS_NEXT (0), or the number of its first fault, from ZS_NOT_UTF8 on, in the order of enum
  * zs_number; memory may run out at any point. The text needs no final 0. */
 uint32_t zs_check(const uint8_t *text, size_t text_len, uint64_t *at);
@@ -122,7 +134,7 @@ uint32_t zs_bounds(const uint8_t *text, size_t text_len, const zs_durations *dur
  *
  * A program is a schedule that is written into the caller's words once, so that no step reads its text again. A program and its
  * state are arrays of words whose numbers depend only on the schedule: at most 4 for each of its nodes, and four more, for the
- * program; at most 4 for each of its nodes, and two more, for the state. A step takes no longer after many steps than after
+ * program; at most 4 for each of its nodes, and three more, for the state. A step takes no longer after many steps than after
  * one. A program has a version and a check word over itself, which each of its states has too. So zeroed, older and changed
  * words and another program's state are rejected. Both may be copied, and stored as bytes for machines of the same byte order.
  * After a restart they still serve, if later moments aren't smaller. A schedule with collectAll has no program, since its list
@@ -151,6 +163,22 @@ uint32_t zs_program_begin(const uint64_t *program, size_t program_len, uint64_t 
  * but what is passed to it, and leaves the state's first word and the words after the state. */
 uint32_t zs_program_step(const uint64_t *program, size_t program_len, uint64_t *state, size_t state_len, uint64_t moment,
                          uint64_t input, zs_reply *reply, uint8_t *out, size_t out_len);
+
+/* Steps a program at the end of a loop's attempt, and plans the next one, over a state that zs_program_begin wrote and zs_plan
+ * continued: ZS_NEXT, and the next attempt may begin at *begin, in nanoseconds as in *turn; or ZS_DONE, and the loop gives up,
+ * because the schedule is done, or because *begin would be above 18446744073709551615. Otherwise the first that applies of
+ * ZS_NO_PROGRAM, ZS_NO_ROOM, ZS_OTHER_STATE and ZS_FALLS, and the words are unchanged; ZS_FALLS comes only after
+ * ZS_DONE or a zs_program_step. *begin is 0 unless ZS_NEXT is returned. The call allocates no memory.
+ *
+ * The schedule is stepped at the attempt's end, in whole milliseconds, but at least 1 ms after the begin that was planned for
+ * it. *begin isn't before the attempt's end. Without jitter it isn't before the schedule's moment. With jitter at least
+ * 100 - percent of the schedule's wait remain. It isn't after the schedule's moment, unless `least` asks for more.
+ *
+ * A loop that begins no attempt before its *begin makes at most zs_bounds.most attempts, whatever its clock, its draws and its
+ * least waits do, if the bounds are those of a driver with such waits. A state may be stored; the next turn then counts from
+ * the begin of the same first attempt. zs_program_step leaves the planned begin in a state as it is. */
+uint32_t zs_plan(const uint64_t *program, size_t program_len, uint64_t *state, size_t state_len, const zs_turn *turn,
+                 uint64_t *begin);
 
 /* The text of a number that a call returned, with its place, in English ("no term at byte 23"; ASCII, without a final 0).
  * It returns the number of bytes, 0 if the number is no error. The text is written to the front of `out`, all of it if

@@ -140,7 +140,7 @@ def program_of(code, state=6):
     body, check = [len(code), state, *code], 0xcbf29ce484222325
     for word in body:
         check = (check * 0x9e3779b97f4a7c15 + word) % 2 ** 64
-    return [0x7a73636865640002, check, *body]
+    return [0x7a73636865640003, check, *body]
 
 
 def array(words):
@@ -150,11 +150,11 @@ def array(words):
 
 def test_a_program_is_the_words_that_its_definition_says(library):
     calls, at, wanted = ctypes.CDLL(str(library / "libzsched.so")), ctypes.c_uint64(), program_of(CODE)
-    words, state = array([7] * (len(wanted) + 1)), array([7] * 9)
+    words, state = array([7] * (len(wanted) + 1)), array([7] * 10)
     assert calls.zs_compile(POLICY, ctypes.c_size_t(len(POLICY)), *words, ctypes.byref(at)) == 0
     assert (at.value, list(words[0])) == (0, [*wanted, 7])
     assert calls.zs_program_begin(*words, *state) == 0
-    assert list(state[0]) == [wanted[1], 0, 100, 100, 0, 0, 0, 0, 7]
+    assert list(state[0]) == [wanted[1], 0, 0, 100, 100, 0, 0, 0, 0, 7]
 
 
 def test_a_zeroed_program_and_one_with_a_byte_changed_are_rejected(library):

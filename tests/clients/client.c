@@ -217,7 +217,7 @@ static uint64_t step_forged(const schedule *it, uint64_t count)
     for (; count; count--) {
         OWN uint64_t *program = (uint64_t *)block(it->program, LENGTH(program, size));
         forge(program, size, &seed);
-        uint64_t state_size = program[3] < 2 * size ? program[3] + 2 : it->state_size, moment = 0;
+        uint64_t state_size = program[3] < 2 * size ? program[3] + 3 : it->state_size, moment = 0;
         OWN uint64_t *state = (uint64_t *)block(NULL, LENGTH(state, state_size + 2));
         uint32_t number = zs_program_begin(program, size, state, state_size);
         hold(number == 0 || number == ZS_NO_PROGRAM || number == ZS_NO_ROOM, it->of, "a program is begun or denied");

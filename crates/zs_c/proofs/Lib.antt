@@ -14,3 +14,7 @@ pub mod Views
 pub mod NodeSteps
 pub mod PartSteps
 pub mod Running
+pub mod Planning
+pub mod PlannedRuns
+pub mod PlanTurns
+pub mod PlanRows

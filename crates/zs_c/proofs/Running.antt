@@ -31,7 +31,7 @@ and-second true b e = e
 and-second false b e = cc
 
 -- a number that passes a test
-at-most : (n m : ℕ) → nat_le n m ≡ true → n ≤ m
+pub at-most : (n m : ℕ) → nat_le n m ≡ true → n ≤ m
 at-most n m e = grind (arith, nat_tests)
 
 -- a schedule within the limits
@@ -61,59 +61,61 @@ short-text t h code words coded light held code_fits words_fit =
     let second : AllFit (held_of t h) = subst AllFit held (all-fit words words_fit) in
     omega (arith, text-bound t h coded.flat first second, light)
 
--- the words of a state, after its check word and its last moment
-state-arg : (old xs more : List ℕ) (a b n : ℕ) → old ≡ a ∷ (b ∷ (xs ++ more)) → n ≡ length xs → take (n + 2 - 2) (drop 2 old) ≡ xs
-state-arg old xs more a b n is sized =
-    let e : n + 2 - 2 ≡ n = omega arith in
-    ap (λ k. take k (drop 2 old)) e ∙ ap (λ (v : List ℕ). take n (drop 2 v)) is ∙ ap (λ k. take k (xs ++ more)) sized ∙ take-append_seam xs more
+-- the words of a state, after its check word, its last moment and its planned begin
+state-arg : (old xs more : List ℕ) (a b c n : ℕ) → old ≡ a ∷ (b ∷ (c ∷ (xs ++ more))) → n ≡ length xs → take (n + 3 - 3) (drop 3 old) ≡ xs
+state-arg old xs more a b c n is sized =
+    let e : n + 3 - 3 ≡ n = omega arith in
+    ap (λ k. take k (drop 3 old)) e ∙ ap (λ (v : List ℕ). take n (drop 3 v)) is ∙ ap (λ k. take k (xs ++ more)) sized ∙ take-append_seam xs more
 
-state-new : (old xs more ys : List ℕ) (a b n now : ℕ) → old ≡ a ∷ (b ∷ (xs ++ more)) → n ≡ length xs →
-    slice_set (put_mid 2 (n + 2 - 2) old ys) 1 now ≡ a ∷ (now ∷ (ys ++ more))
-state-new old xs more ys a b n now is sized =
-    let e : n + 2 - 2 ≡ n = omega arith in
-    ap (λ k. slice_set (put_mid 2 k old ys) 1 now) e ∙ ap (λ (v : List ℕ). slice_set (put_mid 2 n v ys) 1 now) is
-    ∙ ap (λ (z : List ℕ). a ∷ (now ∷ (ys ++ z))) (ap (λ k. drop k (xs ++ more)) sized ∙ drop-append_seam xs more)
+state-new : (old xs more ys : List ℕ) (a b c n now : ℕ) → old ≡ a ∷ (b ∷ (c ∷ (xs ++ more))) → n ≡ length xs →
+    slice_set (put_mid 3 (n + 3 - 3) old ys) 1 now ≡ a ∷ (now ∷ (c ∷ (ys ++ more)))
+state-new old xs more ys a b c n now is sized =
+    let e : n + 3 - 3 ≡ n = omega arith in
+    ap (λ k. slice_set (put_mid 3 k old ys) 1 now) e ∙ ap (λ (v : List ℕ). slice_set (put_mid 3 n v ys) 1 now) is
+    ∙ ap (λ (z : List ℕ). a ∷ (now ∷ (c ∷ (ys ++ z)))) (ap (λ k. drop k (xs ++ more)) sized ∙ drop-append_seam xs more)
 
 -- the words after a state are unchanged
-behind-rest : (n now : ℕ) (old ys : List ℕ) → n + 2 ≤ length old → length ys ≡ n →
-    drop (suc (suc n)) (slice_set (put_mid 2 n old ys) 1 now) ≡ drop (suc (suc n)) old
+behind-rest : (n now : ℕ) (old ys : List ℕ) → n + 3 ≤ length old → length ys ≡ n →
+    drop (suc (suc (suc n))) (slice_set (put_mid 3 n old ys) 1 now) ≡ drop (suc (suc (suc n))) old
 behind-rest n now [] ys fits sized = absurd (omega (arith, fits))
 behind-rest n now (a ∷ []) ys fits sized = absurd (omega (arith, fits))
-behind-rest n now (a ∷ (b ∷ rest)) ys fits sized = ap (λ k. drop k (ys ++ drop n rest)) (sym sized) ∙ drop-append_seam ys (drop n rest)
+behind-rest n now (a ∷ (b ∷ [])) ys fits sized = absurd (omega (arith, fits))
+behind-rest n now (a ∷ (b ∷ (c ∷ rest))) ys fits sized = ap (λ k. drop k (ys ++ drop n rest)) (sym sized) ∙ drop-append_seam ys (drop n rest)
 
-state-behind : (n now : ℕ) (old ys : List ℕ) → n + 2 ≤ length old → length ys ≡ n →
-    drop (suc (suc n)) (slice_set (put_mid 2 (n + 2 - 2) old ys) 1 now) ≡ drop (suc (suc n)) old
+state-behind : (n now : ℕ) (old ys : List ℕ) → n + 3 ≤ length old → length ys ≡ n →
+    drop (suc (suc (suc n))) (slice_set (put_mid 3 (n + 3 - 3) old ys) 1 now) ≡ drop (suc (suc (suc n))) old
 state-behind n now old ys fits sized =
-    let e : n + 2 - 2 ≡ n = omega arith in
-    ap (λ k. drop (suc (suc n)) (slice_set (put_mid 2 k old ys) 1 now)) e ∙ behind-rest n now old ys fits sized
+    let e : n + 3 - 3 ≡ n = omega arith in
+    ap (λ k. drop (suc (suc (suc n))) (slice_set (put_mid 3 k old ys) 1 now)) e ∙ behind-rest n now old ys fits sized
 
 -- a step of the words of a state, whatever they are
-safe-words : (program old ys : List ℕ) (n now : ℕ) → n ≡ slice_index_or program 3 0 → n + 2 ≤ length old → length ys ≡ n →
-    IsStepSafe program old (slice_set (put_mid 2 (n + 2 - 2) old ys) 1 now) now
+safe-words : (program old ys : List ℕ) (n now : ℕ) → n ≡ slice_index_or program 3 0 → n + 3 ≤ length old → length ys ≡ n →
+    IsStepSafe program old (slice_set (put_mid 3 (n + 3 - 3) old ys) 1 now) now
 safe-words program [] ys n now is fits sized = absurd (omega (arith, fits))
 safe-words program (a ∷ []) ys n now is fits sized = absurd (omega (arith, fits))
-safe-words program (a ∷ (b ∷ rest)) ys n now is fits sized =
-    let e : slice_index_or program 3 0 + 2 ≡ suc (suc n) = omega (arith, is) in
+safe-words program (a ∷ (b ∷ [])) ys n now is fits sized = absurd (omega (arith, fits))
+safe-words program (a ∷ (b ∷ (c ∷ rest))) ys n now is fits sized =
+    let e : slice_index_or program 3 0 + 3 ≡ suc (suc (suc n)) = omega (arith, is) in
     record {
       check = refl;
       moment = refl;
-      behind = ap (λ k. drop k (slice_set (put_mid 2 (n + 2 - 2) (a ∷ (b ∷ rest)) ys) 1 now)) e ∙ state-behind n now (a ∷ (b ∷ rest)) ys fits sized
-          ∙ sym (ap (λ k. drop k (a ∷ (b ∷ rest))) e);
+      behind = ap (λ k. drop k (slice_set (put_mid 3 (n + 3 - 3) (a ∷ (b ∷ (c ∷ rest))) ys) 1 now)) e ∙ state-behind n now (a ∷ (b ∷ (c ∷ rest))) ys fits sized
+          ∙ sym (ap (λ k. drop k (a ∷ (b ∷ (c ∷ rest)))) e);
     }
 
 -- a step of the words of a state, and what it returns
 pub program-stepped : (t : Schedule) (old ys room out : List ℕ) (now input n number next size visits : ℕ) (d : Decision) →
-    n ≡ held_size t → n + 2 ≤ length old → length ys ≡ n →
-    ((h : History) → take (n + 2 - 2) (drop 2 old) ≡ held_of t h → StepsCode t h ys now input d 0 visits) →
+    n ≡ held_size t → n + 3 ≤ length old → length ys ≡ n →
+    ((h : History) → take (n + 3 - 3) (drop 3 old) ≡ held_of t h → StepsCode t h ys now input d 0 visits) →
     ((g : History) → ys ≡ held_of t g → out ≡ written (output_text (answer_of t g).output) room) →
     ((g : History) → ys ≡ held_of t g → size ≡ length (output_text (answer_of t g).output)) →
     number ≡ decision_number d → next ≡ next_moment d →
-    IsProgramStepped t old (slice_set (put_mid 2 (n + 2 - 2) old ys) 1 now) now input number (record { next = next; size = size; visits = visits; at = 0 }) room out
+    IsProgramStepped t old (slice_set (put_mid 3 (n + 3 - 3) old ys) 1 now) now input number (record { next = next; size = size; visits = visits; at = 0 }) room out
 program-stepped t old ys room out now input n number next size visits d sized fits kept step text ends numbered goes =
-    let argued : (h : History) → KeepsProgramState t h old → StepsCode t h ys now input d 0 visits =
-    λ h k. step h (state-arg old (held_of t h) k.0 (program_check t) (last_moment h) n k.1 (sized ∙ held-length t [] h)) in
+    let argued : (h : History) (planned : ℕ) → KeepsProgramState t h planned old → StepsCode t h ys now input d 0 visits =
+    λ h planned k. step h (state-arg old (held_of t h) k.0 (program_check t) (last_moment h) planned n k.1 (sized ∙ held-length t [] h)) in
     record {
-      answer = λ h k. let s = argued h k in record {
+      answer = λ h planned k. let s = argued h planned k in record {
         decision = numbered ∙ ap decision_number s.decides;
         next = goes ∙ ap next_moment s.decides;
         text = text ((now, input) ∷ h) s.held;
@@ -121,36 +123,37 @@ program-stepped t old ys room out now input n number next size visits d sized fi
         visited = omega (arith, s.visited);
         at = refl;
       };
-      state = λ h k. (
+      state = λ h planned k. (
         k.0,
-        state-new old (held_of t h) k.0 ys (program_check t) (last_moment h) n now k.1 (sized ∙ held-length t [] h)
-            ∙ ap (λ (z : List ℕ). program_check t ∷ (now ∷ (z ++ k.0))) (argued h k).held,
+        state-new old (held_of t h) k.0 ys (program_check t) (last_moment h) planned n now k.1 (sized ∙ held-length t [] h)
+            ∙ ap (λ (z : List ℕ). program_check t ∷ (now ∷ (planned ∷ (z ++ k.0)))) (argued h planned k).held,
       );
-      behind = ap (λ k. drop (suc (suc k)) (slice_set (put_mid 2 (n + 2 - 2) old ys) 1 now)) (sym sized) ∙ state-behind n now old ys fits kept
-          ∙ ap (λ k. drop (suc (suc k)) old) sized;
+      behind = ap (λ k. drop (suc (suc (suc k))) (slice_set (put_mid 3 (n + 3 - 3) old ys) 1 now)) (sym sized) ∙ state-behind n now old ys fits kept
+          ∙ ap (λ k. drop (suc (suc (suc k))) old) sized;
     }
 
 -- the words of a program's state, by their number, and the words that are written over them
-arg-length : (n : ℕ) (old : List ℕ) → n + 2 ≤ length old → length (take (n + 2 - 2) (drop 2 old)) ≡ n
-arg-length n old fits = omega (arith, fits, length-take (n + 2 - 2) (drop 2 old), length-drop 2 old)
+arg-length : (n : ℕ) (old : List ℕ) → n + 3 ≤ length old → length (take (n + 3 - 3) (drop 3 old)) ≡ n
+arg-length n old fits = omega (arith, fits, length-take (n + 3 - 3) (drop 3 old), length-drop 3 old)
 
-written-words : (n : ℕ) (old ys : List ℕ) → n + 2 ≤ length old → length ys ≡ n → take (n + 2 - 2) (drop 2 (put_mid 2 (n + 2 - 2) old ys)) ≡ ys
+written-words : (n : ℕ) (old ys : List ℕ) → n + 3 ≤ length old → length ys ≡ n → take (n + 3 - 3) (drop 3 (put_mid 3 (n + 3 - 3) old ys)) ≡ ys
 written-words n [] ys fits sized = absurd (omega (arith, fits))
 written-words n (a ∷ []) ys fits sized = absurd (omega (arith, fits))
-written-words n (a ∷ (b ∷ rest)) ys fits sized =
-    let e : n + 2 - 2 ≡ length ys = omega (arith, sized) in
-    ap (λ k. take k (ys ++ drop (n + 2 - 2) rest)) e ∙ take-append_seam ys (drop (n + 2 - 2) rest)
+written-words n (a ∷ (b ∷ [])) ys fits sized = absurd (omega (arith, fits))
+written-words n (a ∷ (b ∷ (c ∷ rest))) ys fits sized =
+    let e : n + 3 - 3 ≡ length ys = omega (arith, sized) in
+    ap (λ k. take k (ys ++ drop (n + 3 - 3) rest)) e ∙ take-append_seam ys (drop (n + 3 - 3) rest)
 
 -- a step of an opened program
 pub opened-stepped : (o : Opened) (t : Schedule) → Opens o t → (old ys room out : List ℕ) (now input number next size visits : ℕ) (d : Decision) →
-    o.state + 2 ≤ length old → length ys ≡ length (take (o.state + 2 - 2) (drop 2 old)) →
-    ((u : Schedule) (h : History) → IsCode u o.code.now 64 → 0 + weight u ≤ 1000 → take (o.state + 2 - 2) (drop 2 old) ≡ held_of u h → StepsCode u h ys now input d 0 visits) →
-    ((u : Schedule) (g : History) → IsCode u o.code.now 64 → weight u ≤ 1000 → take (o.state + 2 - 2) (drop 2 (put_mid 2 (o.state + 2 - 2) old ys)) ≡ held_of u g →
+    o.state + 3 ≤ length old → length ys ≡ length (take (o.state + 3 - 3) (drop 3 old)) →
+    ((u : Schedule) (h : History) → IsCode u o.code.now 64 → 0 + weight u ≤ 1000 → take (o.state + 3 - 3) (drop 3 old) ≡ held_of u h → StepsCode u h ys now input d 0 visits) →
+    ((u : Schedule) (g : History) → IsCode u o.code.now 64 → weight u ≤ 1000 → take (o.state + 3 - 3) (drop 3 (put_mid 3 (o.state + 3 - 3) old ys)) ≡ held_of u g →
     out ≡ written (output_text (answer_of u g).output) room) →
-    ((u : Schedule) (g : History) → IsCode u o.code.now 64 → weight u ≤ 1000 → take (o.state + 2 - 2) (drop 2 (put_mid 2 (o.state + 2 - 2) old ys)) ≡ held_of u g →
+    ((u : Schedule) (g : History) → IsCode u o.code.now 64 → weight u ≤ 1000 → take (o.state + 3 - 3) (drop 3 (put_mid 3 (o.state + 3 - 3) old ys)) ≡ held_of u g →
     size ≡ length (output_text (answer_of u g).output)) →
     number ≡ decision_number d → next ≡ next_moment d →
-    IsProgramStepped t old (slice_set (put_mid 2 (o.state + 2 - 2) old ys) 1 now) now input number (record { next = next; size = size; visits = visits; at = 0 }) room out
+    IsProgramStepped t old (slice_set (put_mid 3 (o.state + 3 - 3) old ys) 1 now) now input number (record { next = next; size = size; visits = visits; at = 0 }) room out
 opened-stepped o t opens old ys room out now input number next size visits d fits kept step text ends numbered goes =
     let n = o.state in
     let code = opened-code o t opens in
@@ -163,6 +166,6 @@ opened-stepped o t opens old ys room out now input number next size visits d fit
     numbered goes
 
 -- the same for any words
-pub opened-safe : (o : Opened) (program old ys : List ℕ) (now : ℕ) → o.state ≡ slice_index_or program 3 0 → o.state + 2 ≤ length old →
-    length ys ≡ length (take (o.state + 2 - 2) (drop 2 old)) → IsStepSafe program old (slice_set (put_mid 2 (o.state + 2 - 2) old ys) 1 now) now
+pub opened-safe : (o : Opened) (program old ys : List ℕ) (now : ℕ) → o.state ≡ slice_index_or program 3 0 → o.state + 3 ≤ length old →
+    length ys ≡ length (take (o.state + 3 - 3) (drop 3 old)) → IsStepSafe program old (slice_set (put_mid 3 (o.state + 3 - 3) old ys) 1 now) now
 opened-safe o program old ys now is fits kept = safe-words program old ys o.state now is fits (kept ∙ arg-length o.state old fits)

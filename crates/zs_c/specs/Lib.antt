@@ -9,6 +9,8 @@ pub mod FaultText
 pub mod Code
 pub mod Program
 pub mod Programs
+pub mod Plan
+pub mod Planned
 -- Named by private contracts only.
 pub mod Leaves
 pub mod Form

@@ -11,6 +11,8 @@ use Rattle.zs_c.specs.declared.reply.Reply.{Reply}
 use Rattle.zs_c.specs.Code.{IsCode, code_of, held_of, held_size}
 use Rattle.zs_c.specs.Program.{program_check}
 use Rattle.zs_c.specs.Programs.{IsProgramStepped}
+use Rattle.zs_c.specs.declared.turn.Turn.{Turn}
+use Rattle.zs_c.specs.Plan.{IsTurnPlanned}
 
 -- an opened program is that of a schedule
 pub record Opens (o : Opened) (t : Schedule) : Type 0 where
@@ -24,6 +26,11 @@ pub record Opens (o : Opened) (t : Schedule) : Type 0 where
 abbrev pub StepsOpened : Opened → List ℕ → List ℕ → Step → Reply → List ℕ → List ℕ → ℕ → Type 0
 StepsOpened o old new step r room out number =
     (t : Schedule) → Opens o t → IsProgramStepped t old new step.moment step.input number r room out
+
+-- a turn is that of every schedule that an opened program is of
+abbrev pub PlansOpened : Opened → List ℕ → List ℕ → Turn → ℕ → ℕ → Type 0
+PlansOpened o old new turn number begin =
+    (t : Schedule) → Opens o t → IsTurnPlanned t turn old new number begin
 
 -- a fact holds of every output that words may represent
 abbrev pub OfEachOutput : List ℕ → List ℕ → (Output → Type 0) → Type 0

@@ -46,11 +46,12 @@ pub record IsProgram (program : List ℕ) (t : Schedule) : Type 0 where
   pub flat : keeps_no_list t ≡ true
   pub within : is_within_limits t ≡ true
 
--- the state of a program after a history: its check word, the last moment, and the words of the
--- schedule's state
-abbrev pub program_state : Schedule → History → List ℕ
-program_state t h = program_check t ∷ (last_moment h ∷ held_of t h)
+-- the state of a program after a history: its check word, the last moment, the planned begin of the
+-- next attempt in milliseconds, and the words of the schedule's state
+abbrev pub program_state : Schedule → History → ℕ → List ℕ
+program_state t h planned = program_check t ∷ (last_moment h ∷ (planned ∷ held_of t h))
 
--- words begin with the state of a schedule's program after a history
-abbrev pub KeepsProgramState : Schedule → History → List ℕ → Type 0
-KeepsProgramState t h words = (more : List ℕ) × (words ≡ program_state t h ++ more)
+-- words begin with the state of a schedule's program after a history, with a planned begin
+abbrev pub KeepsProgramState : Schedule → History → ℕ → List ℕ → Type 0
+KeepsProgramState t h planned words =
+    (more : List ℕ) × (words ≡ program_state t h planned ++ more)

@@ -31,7 +31,8 @@ pub record IsProgramSized (text : List ℕ) (size state_size : ℕ) : Type 0 whe
   pub term : Schedule
   pub spelled : SpellsFlat text term
   pub sized : size ≡ length (program_of term)
-  pub state_sized : (h : History) → state_size ≡ length (program_state term h)
+  pub state_sized : (h : History) (planned : ℕ)
+      → state_size ≡ length (program_state term h planned)
 
 -- the text spells a schedule whose program has more words than this
 pub record OutgrowsProgram (text : List ℕ) (room : ℕ) : Type 0 where
@@ -69,7 +70,7 @@ pub record IsCompiled (text old new : List ℕ) : Type 0 where
 abbrev pub IsUnfit : List ℕ → List ℕ → Denial → Type 0
 IsUnfit program state NoProgram = (t : Schedule) → IsProgram program t → ⊥
 IsUnfit program state NoRoom =
-    (t : Schedule) → IsProgram program t → length state < length (program_state t [])
+    (t : Schedule) → IsProgram program t → length state < length (program_state t [] 0)
 IsUnfit program state OtherState = ⊥
 IsUnfit program state Falls = ⊥
 
@@ -88,23 +89,24 @@ pub record IsDeniedFor (Holds : Denial → Type 0) (n : ℕ) : Type 0 where
   pub is_so : Holds why
   pub numbered : n ≡ denial_number why
 
--- a program's state before any step, written to the front of words
+-- a program's state before any step, with nothing planned, written to the front of words
 pub record IsProgramBegun (t : Schedule) (old new : List ℕ) : Type 0 where
-  pub begun : new ≡ program_state t [] ++ drop (length (program_state t [])) old
+  pub begun : new ≡ program_state t [] 0 ++ drop (length (program_state t [] 0)) old
 
 -- A step of words that are checked, whatever else they and a state's words are: the check word and
 -- the words after the state are unchanged, and the second word is the moment.
 pub record IsStepSafe (program old new : List ℕ) (now : ℕ) : Type 0 where
   pub check : slice_index_or new 0 0 ≡ slice_index_or old 0 0
   pub moment : slice_index_or new 1 0 ≡ now
-  pub behind : drop (slice_index_or program 3 0 + 2) new ≡ drop (slice_index_or program 3 0 + 2) old
+  pub behind : drop (slice_index_or program 3 0 + 3) new ≡ drop (slice_index_or program 3 0 + 3) old
 
 -- The result of one more step is returned, for each history whose state the words were. The new
--- words are the state after that step. Words after the state are unchanged, whatever the words
--- were.
+-- words are the state after that step, with the same planned begin. Words after the state are
+-- unchanged, whatever the words were.
 pub record IsProgramStepped (t : Schedule) (old new : List ℕ) (now input number : ℕ) (r : Reply)
     (room out : List ℕ) : Type 0 where
-  pub answer : (h : History) → KeepsProgramState t h old
+  pub answer : (h : History) (planned : ℕ) → KeepsProgramState t h planned old
       → TellsAnswer t ((now, input) ∷ h) number r room out
-  pub state : (h : History) → KeepsProgramState t h old → KeepsProgramState t ((now, input) ∷ h) new
-  pub behind : drop (length (program_state t [])) new ≡ drop (length (program_state t [])) old
+  pub state : (h : History) (planned : ℕ) → KeepsProgramState t h planned old
+      → KeepsProgramState t ((now, input) ∷ h) planned new
+  pub behind : drop (length (program_state t [] 0)) new ≡ drop (length (program_state t [] 0)) old

@@ -11,5 +11,6 @@ mod node;
 mod opening;
 mod output_text;
 mod outputs;
+mod planning;
 mod running;
 mod stepping;

@@ -1,5 +1,7 @@
 //! What a call returns besides its number.
 
+ghost use Rattle.std.specs.Prelude.{◌≡◌};
+
 /// The result of a schedule at a step, or the place of an error. A field that says nothing is 0.
 #[repr(C)]
 #[derive(Drop)]
@@ -12,4 +14,18 @@ pub struct Reply {
     pub visits: u64,
     /// The byte of the text, or the pair of the list, at which an error shows, from 0.
     pub at: u64,
+}
+
+impl Reply {
+    // Returns a reply that says nothing.
+    pub(crate) fn nothing() -> Reply
+        ensures value { result ≡ record { next = 0; size = 0; visits = 0; at = 0 } }
+    {
+        Reply {
+            next: 0,
+            size: 0,
+            visits: 0,
+            at: 0,
+        }
+    }
 }

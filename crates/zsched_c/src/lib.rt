@@ -8,4 +8,4 @@ mod policies;
 mod programs;
 
 pub use policies::{zs_answer, zs_bounds, zs_check, zs_fault_text, zs_version};
-pub use programs::{zs_compile, zs_program_begin, zs_program_size, zs_program_step};
+pub use programs::{zs_compile, zs_plan, zs_program_begin, zs_program_size, zs_program_step};

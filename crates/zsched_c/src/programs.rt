@@ -1,14 +1,17 @@
 //! The calls over programs.
 
-ghost use Rattle.std.specs.Prelude.{◌≡◌, ◌<◌, ◌≤◌, length};
+ghost use Rattle.std.specs.Prelude.{◌≡◌, ◌<◌, ◌≤◌, ℕ, length, slice_index_or};
 ghost use Rattle.zs_term.specs.Schedule.{Schedule};
-ghost use Rattle.zs_c.specs.Program.{IsChecked, IsProgram};
+ghost use Rattle.zs_step.specs.History.{History, last_moment};
+ghost use Rattle.zs_c.specs.Plan.{BeginsFairly, IsTurnPlanned, moment_of};
+ghost use Rattle.zs_c.specs.Planned.{KeepsBounds};
+ghost use Rattle.zs_c.specs.Program.{IsChecked, IsProgram, KeepsProgramState};
 ghost use Rattle.zs_c.specs.Programs.{IsProgramSized, IsCompiled, IsCompileRefusal, IsUnfit, IsDenied, IsDeniedFor, IsProgramBegun, IsProgramStepped, IsStepSafe};
 ghost use Rattle.zs_c.specs.Refusals.{IsSizeRefusal};
 ghost use Rattle.zs_c.specs.Told.{IsRefusedFor};
 
 use std::alloc::Global;
-use zs_c::Reply;
+use zs_c::{Reply, Turn};
 
 /// Sets `size` and `state_size` to the number of words of the program of a text's schedule, and of
 /// its state. Returns 0, or the number of an error, and sets `at` to the byte at which a fault
@@ -43,8 +46,9 @@ pub extern "C" fn zs_compile(alloc: Global, text: &[u8], program: &mut [u64], at
     zs_c::zs_compile(alloc, text, program, at)
 }
 
-/// Writes the state of a program before any step to the first words of `state`. Returns 0, or the
-/// number of an error. After an error `state` is unchanged. The call allocates no memory.
+/// Writes the state of a program before any step to the first words of `state`, with no planned
+/// begin. Returns 0, or the number of an error. After an error `state` is unchanged. The call
+/// allocates no memory.
 #[unsafe(no_mangle)]
 pub extern "C" fn zs_program_begin(program: &[u64], state: &mut [u64]) -> u32
     ensures begun { result ≡ 0 → (t : Schedule) → IsProgram program.now t
@@ -58,7 +62,8 @@ pub extern "C" fn zs_program_begin(program: &[u64], state: &mut [u64]) -> u32
 
 /// Steps a program once, from the state that `state` represents. Returns 0 if the schedule
 /// continues, 1 if it is done, else the number of an error. The words then represent the state
-/// after that step. After an error `state` and `out` are unchanged. The call allocates no memory.
+/// after that step. The planned begin in the state is unchanged. After an error `state` and `out`
+/// are unchanged. The call allocates no memory.
 #[unsafe(no_mangle)]
 pub extern "C" fn zs_program_step(
     program: &[u64],
@@ -72,10 +77,42 @@ pub extern "C" fn zs_program_step(
         → IsProgramStepped t state.old state.new moment input result reply.new out.old out.new }
     ensures checked { result ≤ 1 → IsChecked program.now }
     ensures safe { result ≤ 1 → IsStepSafe program.now state.old state.new moment }
+    ensures planned { slice_index_or state.new 2 0 ≡ slice_index_or state.old 2 0 }
     ensures refused { 1 < result → IsDeniedFor (IsDenied program.now state.old moment) result }
     ensures nothing { 1 < result → reply.new ≡ record { next = 0; size = 0; visits = 0; at = 0 } }
     ensures stays { 1 < result → state.new ≡ state.old }
     ensures kept { 1 < result → out.new ≡ out.old }
 {
     zs_c::zs_program_step(program, state, moment, input, reply, out)
+}
+
+/// Steps a program at the end of a loop's attempt, and plans the next one. Returns 0 if the next
+/// attempt may begin at `begin`, in nanoseconds; 1 if the loop gives up, as the schedule is done or
+/// no clock of 64 bits counts so far; else the number of an error. The words then represent the
+/// state after that step, and the planned begin. A loop that begins no attempt before `begin` stays
+/// within the bounds of its schedule, whatever its clock does. Unless 0 is returned, `begin` is 0.
+/// After an error `state` is unchanged. The call allocates no memory.
+#[unsafe(no_mangle)]
+pub extern "C" fn zs_plan(
+    program: &[u64],
+    state: &mut [u64],
+    turn: &Turn,
+    begin: &mut u64,
+) -> u32
+    ensures planned { result ≤ 1 → (t : Schedule) → IsProgram program.now t
+        → IsTurnPlanned t turn.now state.old state.new result begin.new }
+    ensures fair { result ≡ 0 → (t : Schedule) (h : History) (planned : ℕ) → IsProgram program.now t
+        → KeepsProgramState t h planned state.old → BeginsFairly t h planned turn.now begin.new }
+    ensures bounded { result ≤ 1 → KeepsBounds program.now state.old turn.now result begin.new }
+    ensures succeeds { (t : Schedule) (h : History) (planned : ℕ) → IsProgram program.now t
+        → KeepsProgramState t h planned state.old → last_moment h ≤ planned → result ≤ 1 }
+    ensures checked { result ≤ 1 → IsChecked program.now }
+    ensures safe { result ≤ 1 → IsStepSafe program.now state.old state.new
+        (moment_of (slice_index_or state.old 2 0) turn.now) }
+    ensures refused { 1 < result → IsDeniedFor (IsDenied program.now state.old
+        (moment_of (slice_index_or state.old 2 0) turn.now)) result }
+    ensures nothing { 0 < result → begin.new ≡ 0 }
+    ensures stays { 1 < result → state.new ≡ state.old }
+{
+    zs_c::zs_plan(program, state, turn, begin)
 }

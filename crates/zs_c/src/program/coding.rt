@@ -16,7 +16,7 @@ use zs_term::{Checked, Cmp, Func, Pick, Term};
 // stores a list.
 pub(crate) fn new_program(alloc: Global, checked: &Checked) -> Result<(Vec<u64>, u64), Refusal>
     ensures program { IfOk result (λ r. r.0.items ≡ program_of (schedule_of checked.now)) }
-    ensures state { IfOk result (λ r. r.1 ≡ length (program_state (schedule_of checked.now) [])) }
+    ensures state { IfOk result (λ r. r.1 ≡ length (program_state (schedule_of checked.now) [] 0)) }
     ensures flat { IfOk result (λ _. keeps_no_list (schedule_of checked.now) ≡ true) }
     ensures err { IfErr result (λ why. (why ≡ Memory) ⊎ (why ≡ KeepsList)) }
     ensures listed { IfErr result (λ why. why ≡ KeepsList
@@ -30,7 +30,7 @@ pub(crate) fn new_program(alloc: Global, checked: &Checked) -> Result<(Vec<u64>,
     let mut program = Vec::new(alloc);
     program.extend_from_slice(&[PROGRAM_VERSION, check_word(&body)])?;
     program.extend_from_slice(&body)?;
-    Ok((program, state + 2))
+    Ok((program, state + 3))
 }
 
 // Appends the code of a term. Returns the number of words of the term's state.

@@ -1,17 +1,23 @@
 //! The functions over programs that C calls.
 
-ghost use Rattle.std.specs.Prelude.{◌≡◌, ◌<◌, ◌≤◌, length};
+ghost use Rattle.std.specs.Prelude.{◌≡◌, ◌<◌, ◌≤◌, ℕ, length, slice_index_or};
 ghost use Rattle.zs_term.specs.Schedule.{Schedule};
-ghost use Rattle.zs_c.specs.Program.{IsChecked, IsProgram};
+ghost use Rattle.zs_step.specs.History.{History, last_moment};
+ghost use Rattle.zs_c.specs.Plan.{BeginsFairly, IsTurnPlanned, moment_of};
+ghost use Rattle.zs_c.specs.Planned.{KeepsBounds};
+ghost use Rattle.zs_c.specs.Program.{IsChecked, IsProgram, KeepsProgramState};
 ghost use Rattle.zs_c.specs.Programs.{IsProgramSized, IsCompiled, IsCompileRefusal, IsUnfit, IsDenied, IsDeniedFor, IsProgramBegun, IsProgramStepped, IsStepSafe};
 ghost use Rattle.zs_c.specs.Refusals.{IsSizeRefusal};
 ghost use Rattle.zs_c.specs.Told.{IsRefusedFor};
 
 use crate::program::compiling::{fitting_program, sizes_in};
 use crate::program::leaf::Step;
+use crate::program::node::word;
+use crate::program::planning::plan_turn;
 use crate::program::running::{begin, open_fitting, open_for_step, run_step};
 use crate::reply::Reply;
 use crate::room::put_words;
+use crate::turn::Turn;
 use std::alloc::Global;
 
 /// Sets `size` and `state_size` to the number of words of the program of a text's schedule, and of
@@ -64,8 +70,9 @@ pub fn zs_compile(alloc: Global, text: &[u8], program: &mut [u64], at: &mut u64)
     }
 }
 
-/// Writes the state of a program before any step to the first words of `state`. Returns 0, or the
-/// number of an error. After an error `state` is unchanged. The call allocates no memory.
+/// Writes the state of a program before any step to the first words of `state`, with no planned
+/// begin. Returns 0, or the number of an error. After an error `state` is unchanged. The call
+/// allocates no memory.
 pub fn zs_program_begin(program: &[u64], state: &mut [u64]) -> u32
     ensures begun { result ≡ 0 → (t : Schedule) → IsProgram program.now t
         → IsProgramBegun t state.old state.new }
@@ -86,7 +93,8 @@ pub fn zs_program_begin(program: &[u64], state: &mut [u64]) -> u32
 
 /// Steps a program once, from the state that `state` represents. Returns 0 if the schedule
 /// continues, 1 if it is done, else the number of an error. The words then represent the state
-/// after that step. After an error `state` and `out` are unchanged. The call allocates no memory.
+/// after that step. The planned begin in the state is unchanged. After an error `state` and `out`
+/// are unchanged. The call allocates no memory.
 pub fn zs_program_step(
     program: &[u64],
     state: &mut [u64],
@@ -101,6 +109,7 @@ pub fn zs_program_step(
     ensures checked { result ≤ 1 → IsChecked program.now }
     // A step of such words leaves the state's first word, and what follows the state.
     ensures safe { result ≤ 1 → IsStepSafe program.now state.old state.new moment }
+    ensures planned { slice_index_or state.new 2 0 ≡ slice_index_or state.old 2 0 }
     // No program, too few words, another program's state, or a moment below the last one.
     ensures refused { 1 < result → IsDeniedFor (IsDenied program.now state.old moment) result }
     ensures nothing { 1 < result → reply.new ≡ record { next = 0; size = 0; visits = 0; at = 0 } }
@@ -110,12 +119,38 @@ pub fn zs_program_step(
     match open_for_step(program, state, moment) {
         Ok(opened) => run_step(opened, state, &Step { moment, input }, reply, out),
         Err(why) => {
-            *reply = Reply {
-                next: 0,
-                size: 0,
-                visits: 0,
-                at: 0,
-            };
+            *reply = Reply::nothing();
+            why.number()
+        }
+    }
+}
+
+/// Steps a program at the end of a loop's attempt, and plans the next one. Returns 0 if the next
+/// attempt may begin at `begin`, in nanoseconds; 1 if the loop gives up, as the schedule is done or
+/// no clock of 64 bits counts so far; else the number of an error. The words then represent the
+/// state after that step, and the planned begin. A loop that begins no attempt before `begin` stays
+/// within the bounds of its schedule, whatever its clock does. Unless 0 is returned, `begin` is 0.
+/// After an error `state` is unchanged. The call allocates no memory.
+pub fn zs_plan(program: &[u64], state: &mut [u64], turn: &Turn, begin: &mut u64) -> u32
+    ensures planned { result ≤ 1 → (t : Schedule) → IsProgram program.now t
+        → IsTurnPlanned t turn.now state.old state.new result begin.new }
+    ensures fair { result ≡ 0 → (t : Schedule) (h : History) (planned : ℕ) → IsProgram program.now t
+        → KeepsProgramState t h planned state.old → BeginsFairly t h planned turn.now begin.new }
+    ensures bounded { result ≤ 1 → KeepsBounds program.now state.old turn.now result begin.new }
+    ensures succeeds { (t : Schedule) (h : History) (planned : ℕ) → IsProgram program.now t
+        → KeepsProgramState t h planned state.old → last_moment h ≤ planned → result ≤ 1 }
+    ensures checked { result ≤ 1 → IsChecked program.now }
+    ensures safe { result ≤ 1 → IsStepSafe program.now state.old state.new
+        (moment_of (slice_index_or state.old 2 0) turn.now) }
+    ensures refused { 1 < result → IsDeniedFor (IsDenied program.now state.old
+        (moment_of (slice_index_or state.old 2 0) turn.now)) result }
+    ensures nothing { 0 < result → begin.new ≡ 0 }
+    ensures stays { 1 < result → state.new ≡ state.old }
+{
+    match open_for_step(program, state, turn.moment(word(state, 2))) {
+        Ok(opened) => plan_turn(opened, state, *turn, begin),
+        Err(why) => {
+            *begin = 0;
             why.number()
         }
     }

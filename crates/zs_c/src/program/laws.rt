@@ -1,11 +1,27 @@
-//! A law of programs, stated about their definition.
+//! Laws of programs and of plans, stated about their definitions.
 
-ghost use Rattle.std.specs.Prelude.{◌≡◌, ℕ, List};
+ghost use Rattle.std.specs.Prelude.{◌≡◌, ◌/◌, ◌≤◌, ℕ, List, Some};
 ghost use Rattle.zs_term.specs.Schedule.{Schedule};
+ghost use Rattle.zs_step.specs.History.{History};
+ghost use Rattle.zs_bounds.specs.Bounds.{Promises};
+ghost use Rattle.zs_bounds.specs.declared.driver.Driver.{Driver};
+ghost use Rattle.zs_bounds.specs.declared.told.Bounds.{Bounds};
+ghost use Rattle.zs_c.specs.declared.turn.Turn.{Turn};
+ghost use Rattle.zs_c.specs.Plan.{end_of};
+ghost use Rattle.zs_c.specs.Planned.{IsCounted, IsPlanned, KeepsTo};
 ghost use Rattle.zs_c.specs.Program.{IsProgram};
 
 /// Words are the program of at most one schedule.
 pub fn one_schedule()
     ensures law { (program : List ℕ) (t u : Schedule) → IsProgram program t → IsProgram program u
         → t ≡ u }
+{}
+
+/// An attempt that was planned, and keeps to its driver, ends within the longest run of the bounds
+/// of that driver, whether it succeeds or fails. Times are counted from the begin of the first
+/// attempt.
+pub fn attempts_end_in_time()
+    ensures law { (t : Schedule) (d : Driver) (h : History) (planned : ℕ) (turn : Turn) (b : Bounds)
+        (r : ℕ) → d.least ≤ 1 → IsCounted turn → IsPlanned t d h planned → KeepsTo d h planned turn
+        → Promises t d b → b.longest_run ≡ Some r → end_of turn / 1000000 ≤ r }
 {}

@@ -6,7 +6,7 @@ ghost use Rattle.zs_c.specs.Program.{check_word, IsChecked, IsProgram};
 ghost use Rattle.zs_c.specs.Opened.{Opens};
 
 /// The first word of each program: the version of its form.
-pub(crate) const PROGRAM_VERSION: u64 = 0x7a73_6368_6564_0002;
+pub(crate) const PROGRAM_VERSION: u64 = 0x7a73_6368_6564_0003;
 
 /// The check word of no words.
 pub(crate) const CHECK_START: u64 = 0xcbf2_9ce4_8422_2325;
@@ -14,7 +14,7 @@ pub(crate) const CHECK_START: u64 = 0xcbf2_9ce4_8422_2325;
 /// The factor of a check word before each word is added to it. It is odd.
 pub(crate) const CHECK_FACTOR: u64 = 0x9e37_79b9_7f4a_7c15;
 
-// A program's check word, the number of words of its state after the last moment, and its code.
+// A program's check word, the number of words of its schedule's state, and its code.
 #[derive(Clone, Copy)]
 pub(crate) struct Opened<'a> {
     pub(crate) check: u64,

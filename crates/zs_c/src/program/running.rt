@@ -25,13 +25,13 @@ pub(crate) fn open_fitting<'a>(program: &'a [u64], state: &[u64]) -> Result<Open
     ensures ok { IfOk result (λ o. (t : Schedule) → IsProgram program.now t → Opens o t) }
     ensures checked { IfOk result (λ _. IsChecked program.now) }
     ensures state { IfOk result (λ o. o.state ≡ slice_index_or program.now 3 0) }
-    ensures fits { IfOk result (λ o. o.state + 2 ≤ length state.now) }
+    ensures fits { IfOk result (λ o. o.state + 3 ≤ length state.now) }
     ensures err { IfErr result (IsUnfit program.now state.now) }
 {
     let Some(opened) = open(program) else {
         return Err(Denial::NoProgram);
     };
-    if state.len() < 2 || state.len() - 2 < opened.state {
+    if state.len() < 3 || state.len() - 3 < opened.state {
         return Err(Denial::NoRoom);
     }
     Ok(opened)
@@ -48,7 +48,7 @@ pub(crate) fn open_for_step<'a>(
     ensures ok { IfOk result (λ o. (t : Schedule) → IsProgram program.now t → Opens o t) }
     ensures checked { IfOk result (λ _. IsChecked program.now) }
     ensures state { IfOk result (λ o. o.state ≡ slice_index_or program.now 3 0) }
-    ensures fits { IfOk result (λ o. o.state + 2 ≤ length state.now) }
+    ensures fits { IfOk result (λ o. o.state + 3 ≤ length state.now) }
     ensures err { IfErr result (IsDenied program.now state.now moment) }
 {
     let opened = open_fitting(program, state)?;
@@ -63,12 +63,13 @@ pub(crate) fn open_for_step<'a>(
 
 // Writes the state of a program before any step.
 pub(crate) fn begin(opened: Opened<'_>, state: &mut [u64])
-    requires fits { opened.state + 2 ≤ length state.old }
+    requires fits { opened.state + 3 ≤ length state.old }
     ensures begun { (t : Schedule) → Opens opened.entry t → IsProgramBegun t state.old state.new }
 {
     state[0] = opened.check;
     state[1] = 0;
-    clear(opened.code, &mut state[2..opened.state + 2], MAX_DEPTH);
+    state[2] = 0;
+    clear(opened.code, &mut state[3..opened.state + 3], MAX_DEPTH);
 }
 
 // Steps a program once, and returns the number of its decision. Writes the text of its output to
@@ -81,17 +82,18 @@ pub(crate) fn run_step(
     reply: &mut Reply,
     out: &mut [u8],
 ) -> u32
-    requires fits { opened.state + 2 ≤ length state.old }
+    requires fits { opened.state + 3 ≤ length state.old }
     ensures told { result ≤ 1 }
+    ensures planned { slice_index_or state.new 2 0 ≡ slice_index_or state.old 2 0 }
     ensures stepped { StepsOpened opened.entry state.old state.new step.now reply.new out.old
         out.new result }
     ensures safe { (program : List ℕ) → opened.entry.state ≡ slice_index_or program 3 0
         → IsStepSafe program state.old state.new step.now.moment }
 {
     let mut visits = 0;
-    let words = &mut state[2..opened.state + 2];
+    let words = &mut state[3..opened.state + 3];
     let decision = step_code(opened.code, words, MAX_DEPTH, step, &mut visits);
-    let size = put_text(opened.code, &state[2..opened.state + 2], out);
+    let size = put_text(opened.code, &state[3..opened.state + 3], out);
     state[1] = step.moment;
     let (number, next) = match decision {
         Decision::Next(next) => (0, next),

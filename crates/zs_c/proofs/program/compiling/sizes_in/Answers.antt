@@ -12,5 +12,5 @@ returns-clause-ok c =
       term = t;
       spelled = record { spelled = c.in_ok-checked.ensures.ok; flat = c.in_ok-program.ensures.flat };
       sized = c.len.ensures ∙ c.in_ok-program.program.ok.0 ∙ ap length c.in_ok-program.ensures.program;
-      state_sized = λ h. omega (arith, c.in_ok-program.ensures.state, held-length t [] h);
+      state_sized = λ h planned. omega (arith, c.in_ok-program.ensures.state, held-length t [] h);
     }

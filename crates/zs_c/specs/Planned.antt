@@ -1,0 +1,97 @@
+-- What `zs_plan` promises of whole runs: a loop that begins no attempt before its planned begin stays
+-- within the bounds of its schedule. Readers of the headline trust this file, `Plan.antt`, and
+-- `Driven.antt` and `Bounds.antt` of `zs_bounds`.
+use Rattle.std.specs.Prelude.{◌≡◌, ℕ, ◌+◌, ◌-◌, ◌/◌, ◌<◌, ◌≤◌, min, Some, List, [], ◌∷◌, length}
+use Rattle.zs_term.specs.Schedule.{Schedule}
+use Rattle.zs_step.specs.declared.decision.Decision.{Decision}
+use Rattle.zs_step.specs.declared.decision.Decision.TheVariants.{Stop, Next}
+use Rattle.zs_step.specs.History.{History, first_moment}
+use Rattle.zs_step.specs.Answer.{answer_of}
+use Rattle.zs_bounds.specs.declared.driver.Driver.{Driver}
+use Rattle.zs_bounds.specs.declared.told.Bounds.{Bounds}
+use Rattle.zs_bounds.specs.declared.waits.Waits.{Waits}
+use Rattle.zs_bounds.specs.Driven.{IsAttempt, IsDriven, IsWait}
+use Rattle.zs_bounds.specs.Bounds.{Promises}
+use Rattle.zs_c.specs.declared.turn.Turn.{Turn}
+use Rattle.zs_c.specs.Plan.{nanos, end_of, asked_of, step_of}
+use Rattle.zs_c.specs.Program.{IsProgram, KeepsProgramState}
+
+-- the fields of a turn are within their sizes
+pub record IsCounted (turn : Turn) : Type 0 where
+  pub began : turn.began ≤ 18446744073709551615
+  pub ended : turn.ended ≤ 18446744073709551615
+  pub input : turn.input ≤ 18446744073709551615
+  pub draw : turn.draw < 4294967296
+
+-- A driver allows what a turn may do: attempts of 1 millisecond, and its jitter and its least wait.
+pub record Allows (d : Driver) (turn : Turn) : Type 0 where
+  pub shortest : d.least ≤ 1
+  pub least : d.waits.least_percent + min turn.percent 100 ≤ 100
+  pub most : 100 ≤ d.waits.most_percent
+  pub asked : asked_of turn ≤ d.waits.asked
+
+-- an attempt begins when it is planned, or late by at most what is allowed; the first begins at 0
+abbrev pub BeginsInTime : Waits → History → ℕ → ℕ → Type 0
+BeginsInTime v [] planned began = began ≡ 0
+BeginsInTime v (p ∷ h) planned began = (planned ≤ began) × (began ≤ planned + nanos v.late)
+
+-- An attempt that is planned for a moment in nanoseconds begins in time, takes at most k
+-- milliseconds, and the clock doesn't fall meanwhile.
+pub record IsInTime (v : Waits) (h : History) (planned : ℕ) (turn : Turn) (k : ℕ) : Type 0 where
+  pub begins : BeginsInTime v h planned turn.began
+  pub falls_not : turn.began ≤ turn.ended
+  pub ends : turn.ended ≤ turn.began + nanos k
+  pub some : 0 < k
+
+-- An attempt keeps to a driver. If the driver limits no duration, each attempt does, whatever the
+-- clock does: it may fall or jump, and the attempt may begin and end at any moment.
+abbrev pub KeepsTo : Driver → History → ℕ → Turn → Type 0
+KeepsTo d h planned turn = (k : ℕ) → d.most ≡ Some k → IsInTime d.waits h planned turn k
+
+-- waits that are never late
+abbrev pub punctual : Waits → Waits
+punctual v = record {
+  least_percent = v.least_percent;
+  most_percent = v.most_percent;
+  asked = v.asked;
+  late = 0;
+}
+
+-- a decision at a moment lets an attempt begin at another one, in milliseconds, and not late
+abbrev pub LetsBeginAt : Waits → ℕ → Decision → ℕ → Type 0
+LetsBeginAt v now Stop m = ⊥
+LetsBeginAt v now (Next x) m = (now ≤ m) × IsWait (punctual v) (x - now) (m - now)
+
+-- The driver can make the history, and its last step lets an attempt begin at the millisecond of
+-- `planned`. Before any step, an attempt begins at 0.
+abbrev pub HasPlanned : Schedule → Driver → History → ℕ → Type 0
+HasPlanned t d [] planned = planned ≡ 0
+HasPlanned t d (p ∷ h) planned =
+    IsDriven t d (p ∷ h) × IsAttempt d 0 (first_moment (p ∷ h))
+    × LetsBeginAt d.waits p.0 (answer_of t (p ∷ h)).decision (planned / 1000000)
+
+-- A loop's next attempt is planned for a moment in nanoseconds, which a clock of 64 bits counts.
+pub record IsPlanned (t : Schedule) (d : Driver) (h : History) (planned : ℕ) : Type 0 where
+  pub counted : planned ≤ 18446744073709551615
+  pub so_far : HasPlanned t d h planned
+
+-- After a turn of a loop whose attempt was planned: the driver can make the history; and if the
+-- next attempt may begin, that one is planned too. So the bounds of that driver hold: there are
+-- never more attempts than `most`, also with the one that may begin; and the attempt ended no later
+-- than `longest_run` after the begin of the first one.
+pub record StaysWithin (t : Schedule) (d : Driver) (h : History) (turn : Turn) (number begin : ℕ) :
+    Type 0 where
+  pub driven : IsDriven t d h
+  pub planned : number ≡ 0 → IsPlanned t d h begin
+  pub most : (b : Bounds) (k : ℕ) → Promises t d b → b.most ≡ Some k → length h + (1 - number) ≤ k
+  pub run : (b : Bounds) (r : ℕ) → Promises t d b → b.longest_run ≡ Some r
+      → end_of turn / 1000000 ≤ r
+
+-- This holds for every schedule, driver and history whose state the words were before the turn, if
+-- the attempt was planned, the driver allows the turn, and the attempt keeps to the driver.
+abbrev pub KeepsBounds : List ℕ → List ℕ → Turn → ℕ → ℕ → Type 0
+KeepsBounds program state turn number begin =
+    (t : Schedule) (d : Driver) (h : History) (planned : ℕ) → IsProgram program t
+    → KeepsProgramState t h (planned / 1000000) state → IsPlanned t d h planned → Allows d turn
+    → KeepsTo d h planned turn
+    → StaysWithin t d (step_of (planned / 1000000) turn ∷ h) turn number begin
