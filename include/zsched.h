@@ -174,9 +174,11 @@ uint32_t zs_program_step(const uint64_t *program, size_t program_len, uint64_t *
  * it. *begin isn't before the attempt's end. Without jitter it isn't before the schedule's moment. With jitter at least
  * 100 - percent of the schedule's wait remain. It isn't after the schedule's moment, unless `least` asks for more.
  *
- * A loop that begins no attempt before its *begin makes at most zs_bounds.most attempts, whatever its clock, its draws and its
- * least waits do, if the bounds are those of a driver with such waits. A state may be stored; the next turn then counts from
- * the begin of the same first attempt. zs_program_step leaves the planned begin in a state as it is. */
+ * A loop makes at most `most` attempts, if that is a bound for a driver with such jitter and least waits: whatever its clock
+ * does, and whenever its attempts begin and end. If they begin at *begin or little later, and take as long as the driver says,
+ * the last one ends within the driver's longest run. zs_bounds tells both for turns without jitter and least wait.
+ *
+ * A state may be stored; later turns count from the same first begin. zs_program_step leaves the planned begin as it is. */
 uint32_t zs_plan(const uint64_t *program, size_t program_len, uint64_t *state, size_t state_len, const zs_turn *turn,
                  uint64_t *begin);
 

@@ -87,10 +87,10 @@ pub extern "C" fn zs_program_step(
 }
 
 /// Steps a program at the end of a loop's attempt, and plans the next one. Returns 0 if the next
-/// attempt may begin at `begin`, in nanoseconds; 1 if the loop gives up, as the schedule is done or
-/// no clock of 64 bits counts so far; else the number of an error. The words then represent the
-/// state after that step, and the planned begin. A loop that begins no attempt before `begin` stays
-/// within the bounds of its schedule, whatever its clock does. Unless 0 is returned, `begin` is 0.
+/// attempt may begin at `begin`, in nanoseconds; 1 if the loop gives up, because the schedule is
+/// done or no clock of 64 bits counts up to that begin; else the number of an error. The words then
+/// represent the state after that step, with the planned begin. So the loop makes no more attempts
+/// than the bounds of its schedule say, whatever its clock does. Unless 0 is returned, `begin` is 0.
 /// After an error `state` is unchanged. The call allocates no memory.
 #[unsafe(no_mangle)]
 pub extern "C" fn zs_plan(
