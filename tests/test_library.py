@@ -1,6 +1,7 @@
 """The calls of the library from C: by tests/clients/client.c, which passes blocks of the stated lengths, changes words,
 makes allocations fail and calls from several threads; also under sanitizers and valgrind."""
 import ctypes
+import random
 import re
 import subprocess
 
@@ -175,6 +176,50 @@ def test_a_step_of_a_forged_program_visits_at_most_1000_nodes(library):
     moment = ctypes.c_uint64(1)
     assert calls.zs_program_step(*program, *state, moment, moment, reply[0], None, ctypes.c_size_t(0)) == 1
     assert reply[0][2] == 1000
+
+
+class Turn(ctypes.Structure):
+    """One failed attempt, as struct zs_turn."""
+    _fields_ = [*[(name, ctypes.c_uint64) for name in ["began", "ended", "input", "least", "longest"]],
+                *[(name, ctypes.c_uint32) for name in ["percent", "draw"]]]
+
+
+def planner(library, text):
+    """A call that plans the next attempt of a new loop after a turn: its number and its begin."""
+    calls, program, state, at = ctypes.CDLL(str(library / "libzsched.so")), array([0] * 64), array([0] * 64), array([0])
+    assert calls.zs_compile(text, ctypes.c_size_t(len(text)), *program, at[0]) == 0
+    assert calls.zs_program_begin(*program, *state) == 0
+    return lambda turn: (calls.zs_plan(*program, *state, ctypes.byref(turn), at[0]), at[0][0])
+
+
+# Begins of spaced(30) after attempts of 5.9 ms and others, worked out by hand from the header.
+@pytest.mark.parametrize("turn, wanted", [
+    ({}, 35_000_000), ({"percent": 50, "draw": 2 ** 31}, 28_400_000), ({"percent": 100, "draw": 2 ** 32 - 1}, 5_900_001),
+    ({"percent": 2 ** 32 - 1, "draw": 2 ** 32 - 1}, 5_900_001), ({"least": 100, "longest": 1000}, 105_900_000),
+    ({"least": 2 ** 64 - 1, "longest": 60_000}, 60_005_900_000), ({"least": 20, "longest": 2 ** 64 - 1}, 35_000_000),
+    ({"began": 40_000_000}, 70_000_000), ({"ended": 2 ** 64 - 1}, None),
+    ({"least": 2 ** 64 - 1, "longest": 2 ** 64 - 1}, None)])
+def test_a_turn_plans_what_the_header_says(library, turn, wanted):
+    found = planner(library, b"spaced(30)")(Turn(**{"ended": 5_900_000} | turn))
+    assert found == ((1, 0) if wanted is None else (0, wanted))
+
+
+# What zs_bounds says for attempts of any time.
+@pytest.mark.parametrize("text, most", [(b"(spaced(10) && elapsed).whileOutput(_2 < 500)", 47),
+                                        (b"elapsed.whileOutput(< 200)", 201), (b"(fixed(7) && recurs(20))", 21)])
+def test_a_loop_makes_no_more_attempts_than_its_bounds_say_whatever_its_clock_does(library, text, most):
+    random.seed(0)
+    counts = []
+    for _ in range(200):
+        plan, farthest = planner(library, text), 10 ** random.randrange(5, 12)
+        number = attempts = 0
+        while number == 0 and attempts <= most:
+            turn, attempts = Turn(random.randrange(farthest), random.randrange(farthest)), attempts + 1
+            number, begin = plan(turn)
+            assert begin == 0 if number else begin >= max(turn.began, turn.ended)
+        assert number == 1 and attempts <= most
+        counts.append(attempts)
+    assert max(counts) == most
 
 
 def test_the_header_is_one_of_cpp_too():

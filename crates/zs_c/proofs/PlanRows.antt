@@ -7,14 +7,41 @@ use Rattle.zs_c.specs.Plan.{moment_of, plan_of}
 
 -- an attempt from one nanosecond to another, without jitter and least wait
 abbrev ran : ℕ → ℕ → Turn
-ran began ended = record { began = began; ended = ended; input = 7; least = 0; longest = 0; percent = 0; draw = 0 }
+ran began ended =
+    record {
+      began = began;
+      ended = ended;
+      input = 7;
+      least = 0;
+      longest = 0;
+      percent = 0;
+      draw = 0;
+    }
 
 -- an attempt of 5.9 milliseconds, with a least wait and the longest one, or with jitter and a draw
 abbrev asked : ℕ → ℕ → Turn
-asked least longest = record { began = 0; ended = 5900000; input = 7; least = least; longest = longest; percent = 0; draw = 0 }
+asked least longest =
+    record {
+      began = 0;
+      ended = 5900000;
+      input = 7;
+      least = least;
+      longest = longest;
+      percent = 0;
+      draw = 0;
+    }
 
 abbrev drawn : ℕ → ℕ → Turn
-drawn percent draw = record { began = 0; ended = 5900000; input = 7; least = 0; longest = 0; percent = percent; draw = draw }
+drawn percent draw =
+    record {
+      began = 0;
+      ended = 5900000;
+      input = 7;
+      least = 0;
+      longest = 0;
+      percent = percent;
+      draw = draw;
+    }
 
 -- half of all draws, and the greatest one
 abbrev half : ℕ

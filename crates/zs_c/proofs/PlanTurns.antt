@@ -25,7 +25,8 @@ use Rattle.zs_c.proofs.Running.{at-most}
 -- ---- the plan of a decision, by the number and the moment that a step returns
 
 -- a decision that is done plans nothing
-pub stop-plan : (turn : Turn) (m number next : ℕ) (e : Decision) → number ≡ 1 → number ≡ decision_number e → next ≡ next_moment e
+pub stop-plan : (turn : Turn) (m number next : ℕ) (e : Decision) → number ≡ 1
+    → number ≡ decision_number e → next ≡ next_moment e
     → plan_of turn m e ≡ None
 stop-plan turn m number next Stop one numbered goes = refl
 stop-plan turn m number next (Next x) one numbered goes = absurd (omega (arith, one, numbered))
@@ -40,20 +41,25 @@ choose-some true n m is le = refl
 choose-some false n m is le = absurd (grind (arith, nat_tests))
 
 -- a begin that no clock counts
-pub late-plan : (turn : Turn) (m number next : ℕ) (e : Decision) → (number ≡ 1 → ⊥) → 18446744073709551615 < begin_of turn m next
+pub late-plan : (turn : Turn) (m number next : ℕ) (e : Decision) → (number ≡ 1 → ⊥)
+    → 18446744073709551615 < begin_of turn m next
     → number ≡ decision_number e → next ≡ next_moment e → plan_of turn m e ≡ None
 late-plan turn m number next Stop other late numbered goes = absurd (other numbered)
 late-plan turn m number next (Next x) other late numbered goes =
-    choose-none (nat_le (begin_of turn m x) 18446744073709551615) (begin_of turn m x) 18446744073709551615 refl
+    choose-none (nat_le (begin_of turn m x) 18446744073709551615) (begin_of turn m x)
+    18446744073709551615 refl
     (subst (λ y. 18446744073709551615 < begin_of turn m y) goes late)
 
 -- a begin
-pub some-plan : (turn : Turn) (m number next begin : ℕ) (e : Decision) → (number ≡ 1 → ⊥) → begin ≡ begin_of turn m next
-    → begin ≤ 18446744073709551615 → number ≡ decision_number e → next ≡ next_moment e → plan_of turn m e ≡ Some begin
+pub some-plan : (turn : Turn) (m number next begin : ℕ) (e : Decision) → (number ≡ 1 → ⊥)
+    → begin ≡ begin_of turn m next
+    → begin ≤ 18446744073709551615 → number ≡ decision_number e → next ≡ next_moment e
+    → plan_of turn m e ≡ Some begin
 some-plan turn m number next begin Stop other is counted numbered goes = absurd (other numbered)
 some-plan turn m number next begin (Next x) other is counted numbered goes =
     let same : begin ≡ begin_of turn m x = is ∙ ap (begin_of turn m) goes in
-    choose-some (nat_le (begin_of turn m x) 18446744073709551615) (begin_of turn m x) 18446744073709551615 refl
+    choose-some (nat_le (begin_of turn m x) 18446744073709551615) (begin_of turn m x)
+    18446744073709551615 refl
     (subst (λ k. k ≤ 18446744073709551615) same counted) ∙ ap (λ (k : ℕ). Some k) (sym same)
 
 -- ---- the words of a state, with the planned begin
@@ -64,7 +70,8 @@ with_plan None ws = ws
 with_plan (Some begin) ws = slice_set ws 2 (begin / 1000000)
 
 -- the words after the first three are unchanged
-after-plan : (o : Option ℕ) (n : ℕ) (ws : List ℕ) → drop (suc (suc (suc n))) (with_plan o ws) ≡ drop (suc (suc (suc n))) ws
+after-plan : (o : Option ℕ) (n : ℕ) (ws : List ℕ)
+    → drop (suc (suc (suc n))) (with_plan o ws) ≡ drop (suc (suc (suc n))) ws
 after-plan None n ws = refl
 after-plan (Some begin) n [] = refl
 after-plan (Some begin) n (a ∷ []) = refl
@@ -72,66 +79,84 @@ after-plan (Some begin) n (a ∷ (b ∷ [])) = refl
 after-plan (Some begin) n (a ∷ (b ∷ (c ∷ ws))) = refl
 
 -- and so are the first two
-first-kept : (o : Option ℕ) (ws : List ℕ) → slice_index_or (with_plan o ws) 0 0 ≡ slice_index_or ws 0 0
+first-kept : (o : Option ℕ) (ws : List ℕ)
+    → slice_index_or (with_plan o ws) 0 0 ≡ slice_index_or ws 0 0
 first-kept None ws = refl
 first-kept (Some begin) [] = refl
 first-kept (Some begin) (a ∷ ws) = refl
 
-second-kept : (o : Option ℕ) (ws : List ℕ) → slice_index_or (with_plan o ws) 1 0 ≡ slice_index_or ws 1 0
+second-kept : (o : Option ℕ) (ws : List ℕ)
+    → slice_index_or (with_plan o ws) 1 0 ≡ slice_index_or ws 1 0
 second-kept None ws = refl
 second-kept (Some begin) [] = refl
 second-kept (Some begin) (a ∷ []) = refl
 second-kept (Some begin) (a ∷ (b ∷ ws)) = refl
 
 -- a turn of any words changes no more than a step does
-pub plan-safe : (o : Option ℕ) (program old mid : List ℕ) (now : ℕ) → IsStepSafe program old mid now → IsStepSafe program old (with_plan o mid) now
+pub plan-safe : (o : Option ℕ) (program old mid : List ℕ) (now : ℕ) → IsStepSafe program old mid now
+    → IsStepSafe program old (with_plan o mid) now
 plan-safe o program old mid now safe =
     let n = slice_index_or program 3 0 in
     let e : n + 3 ≡ suc (suc (suc n)) = omega arith in
     record {
       check = first-kept o mid ∙ safe.check;
       moment = second-kept o mid ∙ safe.moment;
-      behind = ap (λ k. drop k (with_plan o mid)) e ∙ after-plan o n mid ∙ sym (ap (λ k. drop k mid) e) ∙ safe.behind;
+      behind = ap (λ k. drop k (with_plan o mid)) e ∙ after-plan o n mid ∙ sym
+          (ap (λ k. drop k mid) e) ∙ safe.behind;
     }
 
 -- the state with the planned begin
-plan-kept : (o : Option ℕ) (t : Schedule) (h : History) (planned : ℕ) (ws : List ℕ) → KeepsProgramState t h planned ws
+plan-kept : (o : Option ℕ) (t : Schedule) (h : History) (planned : ℕ) (ws : List ℕ)
+    → KeepsProgramState t h planned ws
     → KeepsProgramState t h (planned_after planned o) (with_plan o ws)
 plan-kept None t h planned ws k = k
-plan-kept (Some begin) t h planned ws k = (k.0, ap (λ (v : List ℕ). slice_set v 2 (begin / 1000000)) k.1)
+plan-kept (Some begin) t h planned ws k =
+    (k.0, ap (λ (v : List ℕ). slice_set v 2 (begin / 1000000)) k.1)
 
 -- the planned begin of a state
-planned-word : (t : Schedule) (h : History) (planned : ℕ) (ws : List ℕ) → KeepsProgramState t h planned ws → slice_index_or ws 2 0 ≡ planned
+planned-word : (t : Schedule) (h : History) (planned : ℕ) (ws : List ℕ)
+    → KeepsProgramState t h planned ws → slice_index_or ws 2 0 ≡ planned
 planned-word t h planned ws k = ap (λ (v : List ℕ). slice_index_or v 2 0) k.1
 
 -- a step at the moment of a turn
-turn-told : (o : Option ℕ) (t : Schedule) (turn : Turn) (h : History) (planned now : ℕ) (mid room out : List ℕ) (n number begin : ℕ) (r : Reply) →
-    now ≡ moment_of planned turn → TellsAnswer t ((now, turn.input) ∷ h) n r room out → KeepsProgramState t ((now, turn.input) ∷ h) planned mid →
+turn-told : (o : Option ℕ) (t : Schedule) (turn : Turn) (h : History) (planned now : ℕ)
+    (mid room out : List ℕ) (n number begin : ℕ) (r : Reply) →
+    now ≡ moment_of planned turn → TellsAnswer t ((now, turn.input) ∷ h) n r room out →
+    KeepsProgramState t ((now, turn.input) ∷ h) planned mid →
     ((e : Decision) → n ≡ decision_number e → r.next ≡ next_moment e → plan_of turn now e ≡ o) →
-    number ≡ plan_number o → begin ≡ plan_begin o → TellsPlan t h planned turn (with_plan o mid) number begin
+    number ≡ plan_number o → begin ≡ plan_begin o → TellsPlan t h planned turn (with_plan o mid)
+    number begin
 turn-told o t turn h planned now mid room out n number begin r is told kept plans numbered begins =
     let there : plan_of turn now (answer_of t ((now, turn.input) ∷ h)).decision ≡ o =
     plans (answer_of t ((now, turn.input) ∷ h)).decision told.decision told.next in
-    let plan : plan_after t h planned turn ≡ o = subst (λ m. plan_of turn m (answer_of t ((m, turn.input) ∷ h)).decision ≡ o) is there in
-    let state : KeepsProgramState t (step_of planned turn ∷ h) planned mid = subst (λ m. KeepsProgramState t ((m, turn.input) ∷ h) planned mid) is kept in
+    let plan : plan_after t h planned turn ≡ o =
+    subst (λ m. plan_of turn m (answer_of t ((m, turn.input) ∷ h)).decision ≡ o) is there in
+    let state : KeepsProgramState t (step_of planned turn ∷ h) planned mid =
+    subst (λ m. KeepsProgramState t ((m, turn.input) ∷ h) planned mid) is kept in
     record {
       numbered = numbered ∙ ap plan_number (sym plan);
       begins = begins ∙ ap plan_begin (sym plan);
-      kept = subst (λ k. KeepsProgramState t (step_of planned turn ∷ h) (planned_after planned k) (with_plan o mid)) (sym plan)
+      kept = subst (λ k. KeepsProgramState t (step_of planned turn ∷ h) (planned_after planned k)
+          (with_plan o mid)) (sym plan)
           (plan-kept o t (step_of planned turn ∷ h) planned mid state);
     }
 
 -- a turn over the words of a state
-pub turn-planned : (o : Option ℕ) (t : Schedule) (turn : Turn) (now : ℕ) (old mid room out : List ℕ) (n number begin : ℕ) (r : Reply) →
-    now ≡ moment_of (slice_index_or old 2 0) turn → IsProgramStepped t old mid now turn.input n r room out →
+pub turn-planned : (o : Option ℕ) (t : Schedule) (turn : Turn) (now : ℕ) (old mid room out : List ℕ)
+    (n number begin : ℕ) (r : Reply) →
+    now ≡ moment_of (slice_index_or old 2 0) turn → IsProgramStepped t old mid now turn.input n r
+    room out →
     ((e : Decision) → n ≡ decision_number e → r.next ≡ next_moment e → plan_of turn now e ≡ o) →
-    number ≡ plan_number o → begin ≡ plan_begin o → IsTurnPlanned t turn old (with_plan o mid) number begin
-turn-planned o t turn now old mid room out n number begin r is stepped plans numbered begins = record {
-  plan = λ h planned k.
-      turn-told o t turn h planned now mid room out n number begin r (is ∙ ap (λ w. moment_of w turn) (planned-word t h planned old k))
-      (stepped.answer h planned k) (stepped.state h planned k) plans numbered begins;
-  behind = after-plan o (held_size t) mid ∙ stepped.behind;
-}
+    number ≡ plan_number o → begin ≡ plan_begin o → IsTurnPlanned t turn old (with_plan o mid)
+    number begin
+turn-planned o t turn now old mid room out n number begin r is stepped plans numbered begins =
+    record {
+      plan = λ h planned k.
+          turn-told o t turn h planned now mid room out n number begin r
+          (is ∙ ap (λ w. moment_of w turn) (planned-word t h planned old k))
+          (stepped.answer h planned k) (stepped.state h planned k) plans numbered begins;
+      behind = after-plan o (held_size t) mid ∙ stepped.behind;
+    }
 
 -- ---- what a caller may rely on
 
@@ -142,32 +167,50 @@ chosen-begin true n number begin numbered begins none = begins
 chosen-begin false n number begin numbered begins none = absurd (omega (arith, numbered, none))
 
 -- the begin of a turn is fair
-plan-fair : (t : Schedule) (h : History) (planned : ℕ) (turn : Turn) (number begin : ℕ) (e : Decision) → turn.draw < 4294967296
-    → (answer_of t (step_of planned turn ∷ h)).decision ≡ e → number ≡ plan_number (plan_of turn (moment_of planned turn) e)
-    → begin ≡ plan_begin (plan_of turn (moment_of planned turn) e) → number ≡ 0 → BeginsFairly t h planned turn begin
-plan-fair t h planned turn number begin Stop small is numbered begins none = absurd (omega (arith, numbered, none))
+plan-fair : (t : Schedule) (h : History) (planned : ℕ) (turn : Turn) (number begin : ℕ)
+    (e : Decision) → turn.draw < 4294967296
+    → (answer_of t (step_of planned turn ∷ h)).decision ≡ e
+    → number ≡ plan_number (plan_of turn (moment_of planned turn) e)
+    → begin ≡ plan_begin (plan_of turn (moment_of planned turn) e) → number ≡ 0
+    → BeginsFairly t h planned turn begin
+plan-fair t h planned turn number begin Stop small is numbered begins none =
+    absurd (omega (arith, numbered, none))
 plan-fair t h planned turn number begin (Next x) small is numbered begins none =
     let m = moment_of planned turn in
     let n = begin_of turn m x in
-    let same : begin ≡ n = chosen-begin (nat_le n 18446744073709551615) n number begin numbered begins none in
-    record { next = x; decides = is; fair = subst (IsFair turn m x) (sym same) (fair-begin turn m x small) }
+    let same : begin ≡ n =
+    chosen-begin (nat_le n 18446744073709551615) n number begin numbered begins none in
+    record {
+      next = x;
+      decides = is;
+      fair = subst (IsFair turn m x) (sym same)
+          (fair-begin turn m x small);
+    }
 
-pub turn-fair : (t : Schedule) (h : History) (planned : ℕ) (turn : Turn) (new : List ℕ) (number begin : ℕ) → turn.draw < 4294967296
+pub turn-fair : (t : Schedule) (h : History) (planned : ℕ) (turn : Turn) (new : List ℕ)
+    (number begin : ℕ) → turn.draw < 4294967296
     → TellsPlan t h planned turn new number begin → number ≡ 0 → BeginsFairly t h planned turn begin
 turn-fair t h planned turn new number begin small told none =
-    plan-fair t h planned turn number begin (answer_of t (step_of planned turn ∷ h)).decision small refl told.numbered told.begins none
+    plan-fair t h planned turn number begin (answer_of t (step_of planned turn ∷ h)).decision small
+    refl told.numbered told.begins none
 
 -- a turn isn't denied, if the last step was no later than the planned begin
-pub turn-denied : (t : Schedule) (h : History) (planned word : ℕ) (program state : List ℕ) (turn : Turn) (now : ℕ) (why : Denial) → IsProgram program t
-    → KeepsProgramState t h planned state → last_moment h ≤ planned → word ≡ slice_index_or state 2 0 → word < 18446744073709551616
+pub turn-denied : (t : Schedule) (h : History) (planned word : ℕ) (program state : List ℕ)
+    (turn : Turn) (now : ℕ) (why : Denial) → IsProgram program t
+    → KeepsProgramState t h planned state → last_moment h ≤ planned
+    → word ≡ slice_index_or state 2 0 → word < 18446744073709551616
     → now ≡ moment_of word turn → IsDenied program state now why → ⊥
-turn-denied t h planned word program state turn now NoProgram is kept after read small moment denied = denied t is
+turn-denied t h planned word program state turn now NoProgram is kept after read small moment denied
+    = denied t is
 turn-denied t h planned word program state turn now NoRoom is kept after read small moment denied =
-    let all : length state ≡ suc (suc (suc (length (held_of t h ++ kept.0)))) = ap (λ (v : List ℕ). length v) kept.1 in
+    let all : length state ≡ suc (suc (suc (length (held_of t h ++ kept.0)))) =
+    ap (λ (v : List ℕ). length v) kept.1 in
     omega (arith, denied t is, all, length-append (held_of t h) kept.0, held-length t [] h)
-turn-denied t h planned word program state turn now OtherState is kept after read small moment denied =
+turn-denied t h planned word program state turn now OtherState is kept after read small moment
+    denied =
     denied t is (ap (λ (v : List ℕ). slice_index_or v 0 0) kept.1)
 turn-denied t h planned word program state turn now Falls is kept after read small moment denied =
-    let last : slice_index_or state 1 0 ≡ last_moment h = ap (λ (v : List ℕ). slice_index_or v 1 0) kept.1 in
+    let last : slice_index_or state 1 0 ≡ last_moment h =
+    ap (λ (v : List ℕ). slice_index_or v 1 0) kept.1 in
     let same : word ≡ planned = read ∙ planned-word t h planned state kept in
     omega (arith, denied, last, same, small, moment, after)

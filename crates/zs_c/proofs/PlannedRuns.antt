@@ -31,12 +31,11 @@ millis-high n = lt-div-mul-add {a = n} {b = 1000000} (omega arith)
 millis-from : (m n : ℕ) → m * 1000000 ≤ n → m ≤ n / 1000000
 millis-from m n le = le-div m n 1000000 (omega arith) le
 
-millis-to : (m n : ℕ) → n < m * 1000000 → n / 1000000 < m
-millis-to m n less = let low = millis-low n in omega (arith, low, less)
-
 -- ---- a fair begin is the end of a wait
 
-wait-least : (turn : Turn) (moment next begin l : ℕ) → IsFair turn moment next begin → l + min turn.percent 100 ≤ 100
+-- it waits for no less than its percentage, and for no more than the schedule or a least wait
+wait-least : (turn : Turn) (moment next begin l : ℕ) → IsFair turn moment next begin
+    → l + min turn.percent 100 ≤ 100
     → (next - moment) * l / 100 ≤ begin / 1000000 - moment
 wait-least turn moment next begin l fair allowed =
     let w = next - moment in
@@ -44,11 +43,14 @@ wait-least turn moment next begin l fair allowed =
     let a = w * l / 100 in
     let less : w * l ≤ w * q = mul-le-mul_left w (omega (arith, allowed)) in
     let back : a * 100 ≤ w * l = div-mul-le_self (w * l) 100 in
-    let le : moment + a ≤ begin / 1000000 = millis-from (moment + a) begin (omega (arith, fair.least, less, back)) in
+    let le : moment + a ≤ begin / 1000000 =
+    millis-from (moment + a) begin (omega (arith, fair.least, less, back)) in
     omega (arith, le)
 
-wait-most : (turn : Turn) (moment next begin m a : ℕ) → IsFair turn moment next begin → end_of turn / 1000000 ≤ moment
-    → 100 ≤ m → asked_of turn ≤ a → begin / 1000000 - moment ≤ max (div_ceil ((next - moment) * m) 100) a
+wait-most : (turn : Turn) (moment next begin m a : ℕ) → IsFair turn moment next begin
+    → end_of turn / 1000000 ≤ moment
+    → 100 ≤ m → asked_of turn ≤ a
+    → begin / 1000000 - moment ≤ max (div_ceil ((next - moment) * m) 100) a
 wait-most turn moment next begin m a fair ended allowed asked =
     let w = next - moment in
     let more : w * 100 ≤ w * m = mul-le-mul_left w allowed in
@@ -57,8 +59,10 @@ wait-most turn moment next begin m a fair ended allowed asked =
     let low = millis-low begin in
     omega (arith, more, ceil.0, end, low, fair.most, ended, asked)
 
-fair-wait : (v : Waits) (turn : Turn) (moment next begin : ℕ) → IsFair turn moment next begin → end_of turn / 1000000 ≤ moment
-    → begin ≤ 18446744073709551615 → v.least_percent + min turn.percent 100 ≤ 100 → 100 ≤ v.most_percent
+fair-wait : (v : Waits) (turn : Turn) (moment next begin : ℕ) → IsFair turn moment next begin
+    → end_of turn / 1000000 ≤ moment
+    → begin ≤ 18446744073709551615 → v.least_percent + min turn.percent 100 ≤ 100
+    → 100 ≤ v.most_percent
     → asked_of turn ≤ v.asked → IsWait (punctual v) (next - moment) (begin / 1000000 - moment)
 fair-wait v turn moment next begin fair ended counted least most asked =
     let low = wait-least turn moment next begin v.least_percent fair least in
@@ -66,11 +70,17 @@ fair-wait v turn moment next begin fair ended counted least most asked =
     let small = millis-low begin in
     record { least = low; most = omega (arith, high, small, counted) }
 
-fair-lets : (v : Waits) (turn : Turn) (moment next begin : ℕ) → IsFair turn moment next begin → end_of turn / 1000000 ≤ moment
-    → begin ≤ 18446744073709551615 → v.least_percent + min turn.percent 100 ≤ 100 → 100 ≤ v.most_percent
+-- so a decision lets an attempt begin then
+fair-lets : (v : Waits) (turn : Turn) (moment next begin : ℕ) → IsFair turn moment next begin
+    → end_of turn / 1000000 ≤ moment
+    → begin ≤ 18446744073709551615 → v.least_percent + min turn.percent 100 ≤ 100
+    → 100 ≤ v.most_percent
     → asked_of turn ≤ v.asked → LetsBeginAt v moment (Next next) (begin / 1000000)
-fair-lets v turn moment next begin fair ended counted least most asked =
-    (millis-from moment begin fair.step, fair-wait v turn moment next begin fair ended counted least most asked)
+fair-lets v turn moment next begin fair ended counted least most asked = (
+  millis-from moment begin fair.step,
+  fair-wait v turn moment next begin fair ended counted least
+      most asked,
+)
 
 -- ---- an attempt that is planned ends as its driver lets it
 
@@ -87,7 +97,8 @@ moment-within planned turn counted fits =
     omega (arith, low, end, counted, fits.began, fits.ended)
 
 -- a wait that may also be late
-later-wait : (v : Waits) (w u n : ℕ) → IsWait (punctual v) w u → u ≤ n → n ≤ u + v.late → n ≤ 18446744073709551615
+later-wait : (v : Waits) (w u n : ℕ) → IsWait (punctual v) w u → u ≤ n → n ≤ u + v.late
+    → n ≤ 18446744073709551615
     → IsWait v w n
 later-wait v w u n wait low high small =
     let least : w * v.least_percent / 100 ≤ u = wait.least in
@@ -95,30 +106,40 @@ later-wait v w u n wait low high small =
     record { least = omega (arith, least, low); most = omega (arith, most, high, small) }
 
 -- an attempt that takes any time
-lets-any : (d : Driver) (now x planned m : ℕ) → d.least ≤ 1 → d.most ≡ None → LetsBeginAt d.waits now (Next x) planned
+lets-any : (d : Driver) (now x planned m : ℕ) → d.least ≤ 1 → d.most ≡ None
+    → LetsBeginAt d.waits now (Next x) planned
     → planned < m → m ≤ 999999999999999 → LetsEndAt d now (Next x) m
 lets-any d now x planned m short unlimited lets after small = (
   planned - now,
   (
-    later-wait d.waits (x - now) (planned - now) (planned - now) lets.1 (omega arith) (omega arith) (omega (arith, after, small)),
+    later-wait d.waits (x - now) (planned - now) (planned - now) lets.1 (omega arith) (omega arith)
+        (omega (arith, after, small)),
     record { least = omega (arith, short, after, lets.0); most = λ k e. absurd cc },
   ),
 )
 
 -- an attempt that begins in time and takes at most k milliseconds
-lets-timed : (d : Driver) (now x planned begun m k : ℕ) → d.least ≤ 1 → d.most ≡ Some k → LetsBeginAt d.waits now (Next x) planned
-    → planned ≤ begun → begun ≤ planned + d.waits.late → begun < m → m ≤ begun + k → m ≤ 999999999999999
+lets-timed : (d : Driver) (now x planned begun m k : ℕ) → d.least ≤ 1 → d.most ≡ Some k
+    → LetsBeginAt d.waits now (Next x) planned
+    → planned ≤ begun → begun ≤ planned + d.waits.late → begun < m → m ≤ begun + k
+    → m ≤ 999999999999999
     → LetsEndAt d now (Next x) m
 lets-timed d now x planned begun m k short limit lets low high after within small = (
   begun - now,
   (
-    later-wait d.waits (x - now) (planned - now) (begun - now) lets.1 (omega (arith, low)) (omega (arith, high)) (omega (arith, after, small)),
-    record { least = omega (arith, short, after, low, lets.0); most = λ l e. let same : k ≡ l = cc in omega (arith, same, within, low, lets.0) },
+    later-wait d.waits (x - now) (planned - now) (begun - now) lets.1 (omega (arith, low))
+        (omega (arith, high)) (omega (arith, after, small)),
+    record {
+      least = omega (arith, short, after, low, lets.0);
+      most = λ l e. let same : k ≡ l = cc
+          in omega (arith, same, within, low, lets.0);
+    },
   ),
 )
 
 -- the same, of a turn
-lets-turn : (o : Option ℕ) (d : Driver) (p : ℕ × ℕ) (h : History) (x planned : ℕ) (turn : Turn) → d.most ≡ o → d.least ≤ 1
+lets-turn : (o : Option ℕ) (d : Driver) (p : ℕ × ℕ) (h : History) (x planned : ℕ) (turn : Turn)
+    → d.most ≡ o → d.least ≤ 1
     → planned ≤ 18446744073709551615 → IsCounted turn → KeepsTo d (p ∷ h) planned turn
     → LetsBeginAt d.waits p.0 (Next x) (planned / 1000000)
     → LetsEndAt d p.0 (Next x) (moment_of (planned / 1000000) turn)
@@ -129,10 +150,13 @@ lets-turn None d p h x planned turn is short counted fits keeps lets =
 lets-turn (Some k) d p h x planned turn is short counted fits keeps lets =
     let on = keeps k is in
     let m = moment_of (planned / 1000000) turn in
-    let now : m ≡ max (end_of turn / 1000000) (planned / 1000000 + 1) = moment-is planned turn counted in
+    let now : m ≡ max (end_of turn / 1000000) (planned / 1000000 + 1) =
+    moment-is planned turn counted in
     let begun : planned ≤ turn.began = on.begins.0 in
     let in_time : turn.began ≤ planned + d.waits.late * 1000000 = on.begins.1 in
-    let low = millis-from (planned / 1000000) turn.began (let back = millis-low planned in omega (arith, back, begun)) in
+    let low =
+    millis-from (planned / 1000000) turn.began
+    (let back = millis-low planned in omega (arith, back, begun)) in
     let high = millis-high planned in
     let back = millis-low turn.began in
     let after = millis-high turn.began in
@@ -144,7 +168,9 @@ lets-turn (Some k) d p h x planned turn is short counted fits keeps lets =
     (omega (arith, now, low, after, end, on.falls_not, on.ends, on.some))
     (moment-within planned turn counted fits)
 
-lets-decided : (d : Driver) (p : ℕ × ℕ) (h : History) (e : Decision) (planned : ℕ) (turn : Turn) → d.least ≤ 1
+-- the same, of any decision
+lets-decided : (d : Driver) (p : ℕ × ℕ) (h : History) (e : Decision) (planned : ℕ) (turn : Turn)
+    → d.least ≤ 1
     → planned ≤ 18446744073709551615 → IsCounted turn → KeepsTo d (p ∷ h) planned turn
     → LetsBeginAt d.waits p.0 e (planned / 1000000)
     → LetsEndAt d p.0 e (moment_of (planned / 1000000) turn)
@@ -155,34 +181,45 @@ lets-decided d p h (Next x) planned turn short counted fits keeps lets =
 -- ---- the history after a turn
 
 -- the step of a turn
-turn-step : (planned : ℕ) (turn : Turn) → planned ≤ 18446744073709551615 → IsCounted turn → IsStep (step_of (planned / 1000000) turn)
+turn-step : (planned : ℕ) (turn : Turn) → planned ≤ 18446744073709551615 → IsCounted turn
+    → IsStep (step_of (planned / 1000000) turn)
 turn-step planned turn counted fits =
     record { tick = moment-within planned turn counted fits; input = omega (arith, fits.input) }
 
-pub turn-driven : (t : Schedule) (d : Driver) (h : History) (planned : ℕ) (turn : Turn) → d.least ≤ 1 → IsCounted turn
-    → IsPlanned t d h planned → KeepsTo d h planned turn → IsDriven t d (step_of (planned / 1000000) turn ∷ h)
+-- the driver can make the history after a turn
+pub turn-driven : (t : Schedule) (d : Driver) (h : History) (planned : ℕ) (turn : Turn)
+    → d.least ≤ 1 → IsCounted turn
+    → IsPlanned t d h planned → KeepsTo d h planned turn
+    → IsDriven t d (step_of (planned / 1000000) turn ∷ h)
 turn-driven t d [] planned turn short fits was keeps = turn-step planned turn was.counted fits
 turn-driven t d (p ∷ h) planned turn short fits was keeps = (
   turn-step planned turn was.counted fits,
-  lets-decided d p h (answer_of t (p ∷ h)).decision planned turn short was.counted fits keeps was.so_far.2,
+  lets-decided d p h (answer_of t (p ∷ h)).decision planned turn short was.counted fits keeps
+      was.so_far.2,
   was.so_far.0,
 )
 
 -- the first attempt is one of the driver
-first-timed : (o : Option ℕ) (d : Driver) (turn : Turn) → d.most ≡ o → d.least ≤ 1 → IsCounted turn → KeepsTo d [] 0 turn
+first-timed : (o : Option ℕ) (d : Driver) (turn : Turn) → d.most ≡ o → d.least ≤ 1 → IsCounted turn
+    → KeepsTo d [] 0 turn
     → IsAttempt d 0 (moment_of (0 / 1000000) turn)
-first-timed None d turn is short fits keeps = record { least = omega (arith, short); most = λ k e. absurd cc }
+first-timed None d turn is short fits keeps =
+    record { least = omega (arith, short); most = λ k e. absurd cc }
 first-timed (Some k) d turn is short fits keeps =
     let on = keeps k is in
     let begun : turn.began ≡ 0 = on.begins in
     let end = millis-low (end_of turn) in
     record {
       least = omega (arith, short);
-      most = λ l e. let same : k ≡ l = cc in omega (arith, same, begun, end, on.falls_not, on.ends, on.some);
+      most = λ l e. let same : k ≡ l = cc in omega
+          (arith, same, begun, end, on.falls_not, on.ends, on.some);
     }
 
-pub turn-first : (t : Schedule) (d : Driver) (h : History) (planned : ℕ) (turn : Turn) → d.least ≤ 1 → IsCounted turn
-    → IsPlanned t d h planned → KeepsTo d h planned turn → IsAttempt d 0 (first_moment (step_of (planned / 1000000) turn ∷ h))
+-- and its first attempt is one of the driver, from 0 on
+pub turn-first : (t : Schedule) (d : Driver) (h : History) (planned : ℕ) (turn : Turn) → d.least ≤ 1
+    → IsCounted turn
+    → IsPlanned t d h planned → KeepsTo d h planned turn
+    → IsAttempt d 0 (first_moment (step_of (planned / 1000000) turn ∷ h))
 turn-first t d [] planned turn short fits was keeps =
     let none : planned ≡ 0 = was.so_far in
     subst (λ n. IsAttempt d 0 (moment_of (n / 1000000) turn)) (sym none)
@@ -190,8 +227,10 @@ turn-first t d [] planned turn short fits was keeps =
 turn-first t d (p ∷ h) planned turn short fits was keeps = was.so_far.1
 
 -- an attempt that keeps to its driver ends within the longest run of its bounds
-pub turn-ends : (t : Schedule) (d : Driver) (h : History) (planned : ℕ) (turn : Turn) (b : Bounds) (r : ℕ) → d.least ≤ 1 → IsCounted turn
-    → IsPlanned t d h planned → KeepsTo d h planned turn → Promises t d b → b.longest_run ≡ Some r → end_of turn / 1000000 ≤ r
+pub turn-ends : (t : Schedule) (d : Driver) (h : History) (planned : ℕ) (turn : Turn) (b : Bounds)
+    (r : ℕ) → d.least ≤ 1 → IsCounted turn
+    → IsPlanned t d h planned → KeepsTo d h planned turn → Promises t d b → b.longest_run ≡ Some r
+    → end_of turn / 1000000 ≤ r
 turn-ends t d h planned turn b r short fits was keeps holds is =
     let driven = turn-driven t d h planned turn short fits was keeps in
     let first = turn-first t d h planned turn short fits was keeps in
@@ -201,24 +240,28 @@ turn-ends t d h planned turn b r short fits was keeps holds is =
 -- ---- what a turn promises
 
 -- a begin is planned if it is counted
-chosen : (b : Bool) (n m begin : ℕ) → nat_le n m ≡ b → (if b then Some n else None) ≡ Some begin → (n ≡ begin) × (begin ≤ m)
+chosen : (b : Bool) (n m begin : ℕ) → nat_le n m ≡ b → (if b then Some n else None) ≡ Some begin
+    → (n ≡ begin) × (begin ≤ m)
 chosen true n m begin is plans =
     let same : n ≡ begin = cc in
     let le : n ≤ m = at-most n m is in
     (same, omega (arith, same, le))
 chosen false n m begin is plans = absurd cc
 
+-- the begin of a plan
 plan-some : (turn : Turn) (moment next begin : ℕ) → plan_of turn moment (Next next) ≡ Some begin
     → (begin_of turn moment next ≡ begin) × (begin ≤ 18446744073709551615)
 plan-some turn moment next begin plans =
-    chosen (nat_le (begin_of turn moment next) 18446744073709551615) (begin_of turn moment next) 18446744073709551615 begin refl plans
+    chosen (nat_le (begin_of turn moment next) 18446744073709551615) (begin_of turn moment next)
+    18446744073709551615 begin refl plans
 
--- and no plan is none
+-- a plan isn't both none and some
 none-some : (n : ℕ) (o : Option ℕ) → o ≡ None → o ≡ Some n → ⊥
 none-some n o none some = cc
 
 -- the next attempt of a plan
-planned-next : (t : Schedule) (d : Driver) (h : History) (planned : ℕ) (turn : Turn) (begin : ℕ) (e : Decision) → Allows d turn
+planned-next : (t : Schedule) (d : Driver) (h : History) (planned : ℕ) (turn : Turn) (begin : ℕ)
+    (e : Decision) → Allows d turn
     → IsCounted turn → IsPlanned t d h planned → KeepsTo d h planned turn
     → (answer_of t (step_of (planned / 1000000) turn ∷ h)).decision ≡ e
     → plan_of turn (moment_of (planned / 1000000) turn) e ≡ Some begin
@@ -227,19 +270,22 @@ planned-next t d h planned turn begin Stop allows fits was keeps is plans = absu
 planned-next t d h planned turn begin (Next x) allows fits was keeps is plans =
     let m = moment_of (planned / 1000000) turn in
     let some = plan-some turn m x begin plans in
-    let fair : IsFair turn m x begin = subst (IsFair turn m x) some.0 (fair-begin turn m x fits.draw) in
+    let fair : IsFair turn m x begin =
+    subst (IsFair turn m x) some.0 (fair-begin turn m x fits.draw) in
     record {
       counted = some.1;
       so_far = (
         turn-driven t d h planned turn allows.shortest fits was keeps,
         turn-first t d h planned turn allows.shortest fits was keeps,
         subst (λ k. LetsBeginAt d.waits m k (begin / 1000000)) (sym is)
-        (fair-lets d.waits turn m x begin fair (omega arith) some.1 allows.least allows.most allows.asked),
+            (fair-lets d.waits turn m x begin fair (omega arith) some.1 allows.least allows.most
+            allows.asked),
       );
     }
 
 -- one more attempt is made only after a step that goes on
-one-more : (t : Schedule) (d : Driver) (h : History) (planned : ℕ) (turn : Turn) (o : Option ℕ) (b : Bounds) (k : ℕ)
+one-more : (t : Schedule) (d : Driver) (h : History) (planned : ℕ) (turn : Turn) (o : Option ℕ)
+    (b : Bounds) (k : ℕ)
     → Promises t d b → b.most ≡ Some k → IsDriven t d (step_of (planned / 1000000) turn ∷ h)
     → plan_after t h (planned / 1000000) turn ≡ o
     → suc (length h) + (1 - plan_number o) ≤ k
@@ -251,22 +297,29 @@ one-more t d h planned turn (Some begin) b k holds is driven plans =
     elim (eq-or-lt_of_le le) [
       | inl all ↦
           let stops = holds.done k is g driven all in
-          absurd (none-some begin (plan_after t h (planned / 1000000) turn) (ap (plan_of turn (moment_of (planned / 1000000) turn)) stops) plans)
+          absurd (none-some begin (plan_after t h (planned / 1000000) turn)
+          (ap (plan_of turn (moment_of (planned / 1000000) turn)) stops) plans)
       | inr less ↦ omega (arith, less)
     ]
 
 -- the next attempt, if there is one
-planned-on : (t : Schedule) (d : Driver) (h : History) (planned : ℕ) (turn : Turn) (number begin : ℕ) (o : Option ℕ) → Allows d turn
+planned-on : (t : Schedule) (d : Driver) (h : History) (planned : ℕ) (turn : Turn)
+    (number begin : ℕ) (o : Option ℕ) → Allows d turn
     → IsCounted turn → IsPlanned t d h planned → KeepsTo d h planned turn
-    → plan_after t h (planned / 1000000) turn ≡ o → number ≡ plan_number o → begin ≡ plan_begin o → number ≡ 0
+    → plan_after t h (planned / 1000000) turn ≡ o → number ≡ plan_number o → begin ≡ plan_begin o
+    → number ≡ 0
     → IsPlanned t d (step_of (planned / 1000000) turn ∷ h) begin
-planned-on t d h planned turn number begin None allows fits was keeps plans numbered begins none = absurd (omega (arith, numbered, none))
-planned-on t d h planned turn number begin (Some n) allows fits was keeps plans numbered begins none =
+planned-on t d h planned turn number begin None allows fits was keeps plans numbered begins none =
+    absurd (omega (arith, numbered, none))
+planned-on t d h planned turn number begin (Some n) allows fits was keeps plans numbered begins none
+    =
     subst (λ k. IsPlanned t d (step_of (planned / 1000000) turn ∷ h) k) (sym begins)
-    (planned-next t d h planned turn n (answer_of t (step_of (planned / 1000000) turn ∷ h)).decision allows fits was keeps refl plans)
+    (planned-next t d h planned turn n (answer_of t (step_of (planned / 1000000) turn ∷ h)).decision
+    allows fits was keeps refl plans)
 
 -- the headline
-pub stays-within : (t : Schedule) (d : Driver) (h : History) (planned : ℕ) (turn : Turn) (number begin : ℕ) (o : Option ℕ) → Allows d turn
+pub stays-within : (t : Schedule) (d : Driver) (h : History) (planned : ℕ) (turn : Turn)
+    (number begin : ℕ) (o : Option ℕ) → Allows d turn
     → IsCounted turn → IsPlanned t d h planned → KeepsTo d h planned turn
     → plan_after t h (planned / 1000000) turn ≡ o → number ≡ plan_number o → begin ≡ plan_begin o
     → StaysWithin t d (step_of (planned / 1000000) turn ∷ h) turn number begin
@@ -274,7 +327,10 @@ stays-within t d h planned turn number begin o allows fits was keeps plans numbe
     let driven = turn-driven t d h planned turn allows.shortest fits was keeps in
     record {
       driven = driven;
-      planned = λ zero_is. planned-on t d h planned turn number begin o allows fits was keeps plans numbered begins zero_is;
-      most = λ b k holds is. let more = one-more t d h planned turn o b k holds is driven plans in omega (arith, more, numbered);
-      run = λ b r holds is. turn-ends t d h planned turn b r allows.shortest fits was keeps holds is;
+      planned = λ zero_is. planned-on t d h planned turn number begin o allows fits was keeps plans
+          numbered begins zero_is;
+      most = λ b k holds is. let more = one-more t d h planned turn o b k holds is driven plans in
+          omega (arith, more, numbered);
+      run = λ b r holds is. turn-ends t d h planned turn b r allows.shortest fits was keeps holds
+          is;
     }

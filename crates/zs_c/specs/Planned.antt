@@ -1,6 +1,6 @@
--- What `zs_plan` promises of whole runs: a loop that begins no attempt before its planned begin stays
--- within the bounds of its schedule. Readers of the headline trust this file, `Plan.antt`, and
--- `Driven.antt` and `Bounds.antt` of `zs_bounds`.
+-- What `zs_plan` promises of whole runs: a loop stays within the bounds of its schedule, whatever
+-- its clock does. Readers of the headline trust this file, `Plan.antt`, and `Driven.antt` and
+-- `Bounds.antt` of `zs_bounds`.
 use Rattle.std.specs.Prelude.{◌≡◌, ℕ, ◌+◌, ◌-◌, ◌/◌, ◌<◌, ◌≤◌, min, Some, List, [], ◌∷◌, length}
 use Rattle.zs_term.specs.Schedule.{Schedule}
 use Rattle.zs_step.specs.declared.decision.Decision.{Decision}

@@ -23,7 +23,9 @@ mod turn;
 
 pub use bounding::{BoundsTold, GivenDurations};
 pub use exports::{zs_answer, zs_bounds, zs_check, zs_fault_text, zs_version};
-pub use program::exports::{zs_compile, zs_plan, zs_program_begin, zs_program_size, zs_program_step};
+pub use program::exports::{
+    zs_compile, zs_plan, zs_program_begin, zs_program_size, zs_program_step,
+};
 pub use program::laws::{attempts_end_in_time, one_schedule};
 pub use reply::Reply;
 pub use seen::Seen;

@@ -13,12 +13,7 @@ use crate::turn::Turn;
 
 // Steps a program at the end of a turn, and plans the next attempt. Returns the number of the plan.
 #[inline(always)]
-pub(crate) fn plan_turn(
-    opened: Opened<'_>,
-    state: &mut [u64],
-    turn: Turn,
-    begin: &mut u64,
-) -> u32
+pub(crate) fn plan_turn(opened: Opened<'_>, state: &mut [u64], turn: Turn, begin: &mut u64) -> u32
     requires fits { opened.state + 3 ≤ length state.old }
     ensures told { result ≤ 1 }
     ensures planned { PlansOpened opened.entry state.old state.new turn result begin.new }

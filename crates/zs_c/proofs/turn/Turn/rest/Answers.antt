@@ -12,5 +12,7 @@ overflow_mul-result c =
 
 pub overflow_sub-result : goal.overflow_sub-result
 overflow_sub-result c =
-    let below = cut-below c.nanos-2.result c.from.result (omega (arith, c.from.ensures, c.share_of-share.type_inv)) in
+    let below =
+    cut-below c.nanos-2.result c.from.result
+    (omega (arith, c.from.ensures, c.share_of-share.type_inv)) in
     omega (arith, below, c.nanos.ensures.value, c.nanos-2.ensures.value)
