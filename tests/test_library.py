@@ -169,7 +169,7 @@ def test_a_zeroed_program_and_one_with_a_byte_changed_are_rejected(library):
 
 
 def test_a_step_of_a_forged_program_visits_at_most_1000_nodes(library):
-    calls, state, reply = ctypes.CDLL(str(library / "libzsched.so")), array([7] * 4), array([0] * 4)
+    calls, state, reply = ctypes.CDLL(str(library / "libzsched.so")), array([7] * 5), array([0] * 4)
     # Each of 30 resets, whose test passes always, steps its part twice.
     program = array(program_of([17, 0, 5, 0] * 30 + [1], 2))
     assert calls.zs_program_begin(*program, *state) == 0
@@ -220,6 +220,24 @@ def test_a_loop_makes_no_more_attempts_than_its_bounds_say_whatever_its_clock_do
         assert number == 1 and attempts <= most
         counts.append(attempts)
     assert max(counts) == most
+
+
+# Attempts of 30 ms and the waits between them, by hand: 6 x 30 + 5 x 10, 4 x 30 + 10 + 20 + 40.
+@pytest.mark.parametrize("text, longest_run", [(b"(spaced(10) && recurs(5))", 230), (b"(exponential(10) && recurs(3))", 190)])
+def test_a_loop_whose_attempts_are_in_time_ends_within_its_longest_run(library, text, longest_run):
+    random.seed(0)
+    calls, at, bounds = ctypes.CDLL(str(library / "libzsched.so")), ctypes.c_uint64(), array([0] * 9)[0]
+    assert calls.zs_bounds(text, ctypes.c_size_t(len(text)), array([1, 1, 30])[0], ctypes.c_uint64(1000), bounds,
+                           ctypes.byref(at)) == 0
+    assert list(bounds[-2:]) == [1, longest_run]
+    latest = []
+    for run in range(100):
+        plan, number, begin, ended = planner(library, text), 0, 0, 0
+        while number == 0:
+            ended = begin + (random.choice([0, random.randrange(30_000_001)]) if run else 30_000_000)
+            number, begin = plan(Turn(begin, ended))
+        latest.append(ended // 1_000_000)
+    assert max(latest) == latest[0] == longest_run
 
 
 def test_the_header_is_one_of_cpp_too():

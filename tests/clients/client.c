@@ -210,6 +210,24 @@ static void forge(uint64_t *program, uint64_t size, uint64_t *seed)
         program[1] = program[1] * 0x9E3779B97F4A7C15 + program[i];
 }
 
+/* Plans after a turn of any numbers. */
+static void turn_forged(const schedule *it, const uint64_t *program, uint64_t size, uint64_t *state, uint64_t state_size,
+                        uint64_t *seed)
+{
+    OWN uint64_t *begin = (uint64_t *)block(NULL, sizeof *begin);
+    OWN zs_turn *turn = (zs_turn *)block(NULL, sizeof *turn);
+    uint64_t *words = (uint64_t *)turn, last = state[1], planned = state[2];
+    for (int i = 0; i < 6; i++)
+        words[i] = draw(seed) >> draw(seed) % 64;
+    uint32_t number = zs_plan(program, size, state, state_size, turn, begin);
+    if (number == ZS_FALLS)
+        hold(*begin == 0 && state[1] == last && state[2] == planned, it->of, "a turn fails, and changes nothing");
+    else
+        hold(number <= ZS_DONE && (number ? *begin == 0 && state[2] == planned
+                                          : *begin >= turn->began && *begin >= turn->ended && state[2] == *begin / 1000000) &&
+                 state[0] == program[1] && state[1] > planned, it->of, "a turn has a plan");
+}
+
 /* Steps programs that are forged, each 8 times. Returns how many steps had a result. Others weren't begun. */
 static uint64_t step_forged(const schedule *it, uint64_t count)
 {
@@ -228,6 +246,8 @@ static uint64_t step_forged(const schedule *it, uint64_t count)
             number = zs_program_step(program, size, state, state_size + i % 3, moment, draw(&seed), reply, out, 9);
             hold(number <= ZS_DONE && reply->visits <= 1000 && state[0] == program[1] && state[1] == moment, it->of,
                  "a step has a result");
+            turn_forged(it, program, size, state, state_size + i % 3, &seed);
+            moment = state[1];
         }
         hold(is_untouched(state + state_size, LENGTH(state, 2)), it->of, "the words after a state are unchanged");
     }

@@ -54,7 +54,7 @@ greatest = 4294967295
 abbrev limit : ℕ
 limit = 18446744073709551615
 
--- a planned begin in milliseconds, a turn, and what the schedule decides; and beside it the moment of
+-- a planned begin in milliseconds, a turn, and what the schedule decides; beside it the moment of
 -- the step, and the plan
 abbrev Row : Type 0
 Row = (ℕ × Turn × Decision) × (ℕ × Option ℕ)
