@@ -1,5 +1,5 @@
--- When a loop begins its next attempt. A turn is one failed attempt, by the loop's clock, in
--- nanoseconds from the begin of the first attempt. Moments of the schedule are milliseconds.
+-- When a loop begins its next attempt. A turn is one failed attempt, by the loop's clock. It began
+-- and ended some nanoseconds after the first attempt began. Moments are milliseconds after that.
 use Rattle.std.specs.Prelude.{◌≡◌, ℕ, ◌+◌, ◌-◌, ◌*◌, ◌/◌, ◌≤◌, min, max, nat_le}
 use Rattle.std.specs.Prelude.{if◌then◌else◌, Option, Some, None, List, [], ◌∷◌, length, drop}
 use Rattle.zs_term.specs.Saturating.{saturated}
@@ -20,7 +20,7 @@ abbrev pub end_of : Turn → ℕ
 end_of turn = max turn.began turn.ended
 
 -- the moment at which the schedule is stepped: the attempt's end, and at least 1 millisecond after
--- its planned begin
+-- its planned begin, which is in milliseconds too
 abbrev pub moment_of : ℕ → Turn → ℕ
 moment_of planned turn = max (end_of turn / 1000000) (saturated (planned + 1))
 
@@ -40,7 +40,7 @@ rest_of turn wait = wait - wait * share_of turn / 4294967296
 abbrev pub asked_of : Turn → ℕ
 asked_of turn = min turn.least turn.longest
 
--- the begin by the schedule's next moment and by jitter's draw
+-- the schedule's next moment, or what jitter leaves of the wait until then, if that is earlier
 abbrev pub drawn_of : Turn → ℕ → ℕ → ℕ
 drawn_of turn moment next =
     min (nanos next) (earliest_of turn moment + rest_of turn (nanos (next - moment)))
@@ -52,7 +52,7 @@ begin_of turn moment next =
     (end_of turn + nanos (asked_of turn))
 
 -- What a decision at a moment plans: the begin of the next attempt, or nothing if the loop gives
--- up. It gives up if the schedule is done, or if no clock of 64 bits counts up to that begin.
+-- up: because the schedule is done, or because that begin is above 2^64 - 1 nanoseconds.
 abbrev pub plan_of : Turn → ℕ → Decision → Option ℕ
 plan_of turn moment Stop = None
 plan_of turn moment (Next x) =
@@ -93,9 +93,9 @@ pub record IsFair (turn : Turn) (moment next begin : ℕ) : Type 0 where
   -- not before the moment of the step; and without jitter not before the schedule's next moment
   pub step : nanos moment ≤ begin
   pub exact : turn.percent ≡ 0 → nanos next ≤ begin
-  -- with jitter, what it leaves of the schedule's wait is waited for
+  -- with jitter, at least 100 - percent of the schedule's wait pass from the moment of the step on
   pub least : nanos moment * 100 + nanos (next - moment) * (100 - turn.percent) ≤ begin * 100
-  -- no later than the schedule's next moment, or than now, unless a least wait asks for more
+  -- not after the schedule's next moment, or the earliest begin, unless a least wait asks for it
   pub most : begin ≤ max (max (nanos next) (earliest_of turn moment))
       (end_of turn + nanos (asked_of turn))
 
@@ -106,8 +106,8 @@ pub record BeginsFairly (t : Schedule) (h : History) (planned : ℕ) (turn : Tur
   pub decides : (answer_of t (step_of planned turn ∷ h)).decision ≡ Next next
   pub fair : IsFair turn (moment_of planned turn) next begin
 
--- The plan of a turn is returned, and words begin with the state after its step, with the begin
--- that is planned now.
+-- The plan of a turn is returned, and words begin with the state after its step, with the new
+-- planned begin.
 pub record TellsPlan (t : Schedule) (h : History) (planned : ℕ) (turn : Turn) (new : List ℕ)
     (number begin : ℕ) : Type 0 where
   pub numbered : number ≡ plan_number (plan_after t h planned turn)

@@ -16,7 +16,7 @@ use Rattle.zs_c.specs.declared.turn.Turn.{Turn}
 use Rattle.zs_c.specs.Plan.{nanos, end_of, asked_of, step_of}
 use Rattle.zs_c.specs.Program.{IsProgram, KeepsProgramState}
 
--- the fields of a turn are within their sizes
+-- the numbers of a turn fit 64 bits, and its draw 32
 pub record IsCounted (turn : Turn) : Type 0 where
   pub began : turn.began ≤ 18446744073709551615
   pub ended : turn.ended ≤ 18446744073709551615
@@ -30,13 +30,13 @@ pub record Allows (d : Driver) (turn : Turn) : Type 0 where
   pub most : 100 ≤ d.waits.most_percent
   pub asked : asked_of turn ≤ d.waits.asked
 
--- an attempt begins when it is planned, or late by at most what is allowed; the first begins at 0
+-- An attempt doesn't begin before its planned begin, in nanoseconds, and is late by at most what
+-- the driver allows. The first begins at 0.
 abbrev pub BeginsInTime : Waits → History → ℕ → ℕ → Type 0
 BeginsInTime v [] planned began = began ≡ 0
 BeginsInTime v (p ∷ h) planned began = (planned ≤ began) × (began ≤ planned + nanos v.late)
 
--- An attempt that is planned for a moment in nanoseconds begins in time, takes at most k
--- milliseconds, and the clock doesn't fall meanwhile.
+-- An attempt begins in time and takes at most k milliseconds, and the clock doesn't fall meanwhile.
 pub record IsInTime (v : Waits) (h : History) (planned : ℕ) (turn : Turn) (k : ℕ) : Type 0 where
   pub begins : BeginsInTime v h planned turn.began
   pub falls_not : turn.began ≤ turn.ended
@@ -57,28 +57,27 @@ punctual v = record {
   late = 0;
 }
 
--- a decision at a moment lets an attempt begin at another one, in milliseconds, and not late
+-- a decision at a moment lets an attempt begin at another moment, without being late
 abbrev pub LetsBeginAt : Waits → ℕ → Decision → ℕ → Type 0
 LetsBeginAt v now Stop m = ⊥
 LetsBeginAt v now (Next x) m = (now ≤ m) × IsWait (punctual v) (x - now) (m - now)
 
--- The driver can make the history, and its last step lets an attempt begin at the millisecond of
--- `planned`. Before any step, an attempt begins at 0.
+-- The driver can make the history, and the last step lets an attempt begin at the millisecond of
+-- the planned begin. Before any step that begin is 0.
 abbrev pub HasPlanned : Schedule → Driver → History → ℕ → Type 0
 HasPlanned t d [] planned = planned ≡ 0
 HasPlanned t d (p ∷ h) planned =
     IsDriven t d (p ∷ h) × IsAttempt d 0 (first_moment (p ∷ h))
     × LetsBeginAt d.waits p.0 (answer_of t (p ∷ h)).decision (planned / 1000000)
 
--- A loop's next attempt is planned for a moment in nanoseconds, which a clock of 64 bits counts.
+-- the begin of a loop's next attempt is planned, in nanoseconds of 64 bits
 pub record IsPlanned (t : Schedule) (d : Driver) (h : History) (planned : ℕ) : Type 0 where
   pub counted : planned ≤ 18446744073709551615
   pub so_far : HasPlanned t d h planned
 
--- After a turn of a loop whose attempt was planned: the driver can make the history; and if the
--- next attempt may begin, that one is planned too. So the bounds of that driver hold: there are
--- never more attempts than `most`, also with the one that may begin; and the attempt ended no later
--- than `longest_run` after the begin of the first one.
+-- What holds after a turn whose begin was planned. The driver can make the history, and if the next
+-- attempt may begin, that begin is planned too. So the bounds of the driver hold: there are at most
+-- `most` attempts, with the one that may begin, and the attempt ended within `longest_run`.
 pub record StaysWithin (t : Schedule) (d : Driver) (h : History) (turn : Turn) (number begin : ℕ) :
     Type 0 where
   pub driven : IsDriven t d h

@@ -42,7 +42,7 @@ impl Turn {
     }
 
     // Returns when the next attempt begins, if the schedule continues at `next` after a step at
-    // `moment`. Returns `None` if no clock of 64 bits counts so far.
+    // `moment`. Returns `None` if 64 bits don't hold that many nanoseconds.
     pub(crate) fn begin(self, moment: u64, next: u64) -> Option<u64>
         ensures some { IfSome result (λ begin. begin ≡ begin_of self moment next) }
         ensures counted { IfSome result (λ begin. begin ≤ 18446744073709551615) }

@@ -88,10 +88,10 @@ pub extern "C" fn zs_program_step(
 
 /// Steps a program at the end of a loop's attempt, and plans the next one. Returns 0 if the next
 /// attempt may begin at `begin`, in nanoseconds; 1 if the loop gives up, because the schedule is
-/// done or no clock of 64 bits counts up to that begin; else the number of an error. The words then
-/// represent the state after that step, with the planned begin. So the loop makes no more attempts
-/// than the bounds of its schedule say, whatever its clock does. `begin` is 0 unless 0 is returned.
-/// After an error `state` is unchanged. The call allocates no memory.
+/// done or 64 bits don't hold that begin; else the number of an error. The words then represent the
+/// state after that step, with the planned begin. So the loop makes no more attempts than the
+/// bounds of its schedule say, whatever its clock does. `begin` is 0 unless 0 is returned. After an
+/// error `state` is unchanged. The call allocates no memory.
 #[unsafe(no_mangle)]
 pub extern "C" fn zs_plan(
     program: &[u64],
