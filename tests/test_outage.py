@@ -282,7 +282,7 @@ def test_more_bytes_than_a_plan_takes_are_said_before_the_run(capsys):
         command.warn_of_lines("steady", search.schedules_of(read(SMALL), "steady"))
     assert capsys.readouterr().err == (
         "zsched-outage: policy steady: 3 jobs with schedules of 33 bytes are more than one plan of 10,000 jobs and "
-        "32 bytes: it is written as JSON lines\n")
+        "32 bytes: -o writes it as JSON lines\n")
 
 
 @given(st.lists(st.integers(0, 60), max_size=12), st.integers(1, 20), st.integers(0, 40))

@@ -159,7 +159,7 @@ def test_a_part_of_time_has_its_load_alone(jobs, words, least, most):
 
 @pytest.mark.parametrize("text", [wide_report(300, 4), RUNNING, GREATEST, "polls 0\n"], ids=range(4))
 def test_the_picture_of_a_load_has_all_attempts_and_nothing_outside(text):
-    root = drawn_by("load", "--svg", "--every", "50ms", "--title", "A & B", text=text)
+    root = drawn_by("load", "--svg", "-", "--every", "50ms", "--title", "A & B", text=text)
     assert sum(begun(root)) == text.count("\nattempt ")
     check_nothing_outside(root)
 
@@ -207,7 +207,7 @@ def test_a_picture_is_dark_if_that_is_preferred_and_has_no_small_letter():
 
 
 @pytest.mark.parametrize("text", [WAITING, wide_report(201, 2)], ids=["rows", "load"])
-@pytest.mark.parametrize("words", [["svg"], ["load", "--svg", "--every", "50ms"]], ids=["svg", "load"])
+@pytest.mark.parametrize("words", [["svg"], ["load", "--svg", "-", "--every", "50ms"]], ids=["svg", "load"])
 def test_a_picture_of_a_file_is_as_large_as_it_was_drawn(words, text):
     root = drawn_by(*words, text=text)
     assert ["0", "0", root.get("width"), root.get("height")] == root.get("viewBox").split()

@@ -208,7 +208,7 @@ def test_a_plan_that_takes_too_much_memory_is_told(zsched):
 def test_a_plan_of_too_many_attempts_is_not_run():
     fault = command.answer("/nowhere", question("forever", horizon=999999999999999), 10)["fault"]
     assert fault["field"] == "until"
-    assert fault["cause"].startswith("its attempts may be 1.0e+15, more than 100000000: ")
+    assert fault["cause"].startswith("its attempts may be 1,000,000,000,000,000, more than 100,000,000: ")
 
 
 def test_a_port_that_is_taken_is_told(zsched):

@@ -3,6 +3,7 @@ import argparse
 import contextlib
 import errno
 import io
+import itertools
 import os
 import pathlib
 import re
@@ -10,12 +11,14 @@ import shutil
 import signal
 import sys
 
-from zsched_tools.words import WIDTH, shown
+from zsched_tools.hints import near
+from zsched_tools.words import WIDTH, shown, wrapped
 
 # The exit statuses of all commands. 0 is yes. A process that SIGPIPE ends has the status 141 in a shell.
 NO, REFUSED, FAILED, INTERRUPTED = 1, 2, 3, 130
+MOST_COLUMNS = 120
 _OF_OUTPUT = (errno.ENOSPC, errno.EFBIG, errno.EDQUOT)
-_colored = ["auto"]
+_colored, _quiet = ["auto"], [False]
 _CODES = {"bad": "1;31", "good": "32", "help": "36", "faint": "2", "strong": "1"}
 _HERE = pathlib.Path(__file__).resolve()
 
@@ -68,19 +71,57 @@ def version():
     return "unknown"
 
 
-class Parser(argparse.ArgumentParser):
-    """A parser that shows its texts as they are, and what is wrong before the usage."""
+class Formatter(argparse.RawDescriptionHelpFormatter):
+    """Help in the width of the terminal."""
 
-    def __init__(self, **words):
-        super().__init__(formatter_class=argparse.RawDescriptionHelpFormatter, **words)
+    def __init__(self, prog, width=None):
+        super().__init__(prog, width=width or min(shutil.get_terminal_size().columns, MOST_COLUMNS) - 2)
+
+    def _fill_text(self, text, width, indent):
+        return "\n".join(wrapped(text, width))
+
+
+class Short(argparse.Action):
+    """The option that prints the first paragraph and the options."""
+
+    def __call__(self, parser, *_):
+        parser.description, parser.epilog = parser.description.partition("\n\n")[0], "--help says more."
+        parser.print_help()
+        parser.exit()
+
+
+class Parser(argparse.ArgumentParser):
+    """The parser of a command, or of a part of it. Of a wrong command line it says what is wrong first."""
+
+    def __init__(self, **texts):
+        super().__init__(formatter_class=Formatter, add_help=False, **texts)
+        self.add_argument("-h", action=Short, nargs=0, help="show the options")
+        self.add_argument("--help", action="help", help="show all that is to say, with examples")
+
+    def parse_known_args(self, args=None, namespace=None):
+        args = sys.argv[1:] if args is None else args
+        has_parts = any(it.nargs == argparse.PARSER for it in self._actions)
+        for word in itertools.takewhile(lambda it: it != "--" and (it[:1] == "-" or not has_parts), args):
+            option = re.match(r"--[a-z][a-z-]*(?==|\Z)|-[A-Za-z](?=[A-Za-z]*\Z)|", word)[0]
+            if option and not any(it.startswith(option) for it in self._option_string_actions):
+                self.error(f"there is no option {option}{meant(option, self._option_string_actions)}")
+        return super().parse_known_args(args, namespace)
 
     def error(self, message):
-        from zsched_tools.generated import flags_of
-        from zsched_tools.hints import near
-        unknown = re.match("unrecognized arguments: (--[a-z-]+)", message)
-        meant = unknown and unknown[1] not in flags_of(self) and near(unknown[1], flags_of(self))
-        help = f": did you mean {meant}?" if meant else ""
-        self.exit(REFUSED, f"{self.prog}: {message}{help}\n{self.format_usage()}")
+        """Exits with status 2, after what is wrong and how the command is used."""
+        if found := re.search(r"invalid choice: '(.*)' \(choose from (.*)\)", message):
+            message += meant(found[1], re.findall(r"[\w-]+", found[2]))
+        formatter = Formatter(self.prog)
+        formatter.add_usage(None, [it for it in self._actions if not it.option_strings], [])
+        usage = formatter.format_help().rstrip()
+        self.exit(REFUSED, f"{self.prog}: {message}\n{usage}; {self.prog} -h lists the options\n")
+
+
+def meant(word, words):
+    """The question whether one of some words is meant, if it is similar."""
+    plain = {it.lstrip("-"): it for it in words}
+    found = near(word.lstrip("-"), plain)
+    return f": did you mean {plain[found]}?" if found else ""
 
 
 def parser(tool, about, epilog=None):
@@ -97,15 +138,23 @@ def add_version(parser):
 
 def complete(parser):
     """The parser of a command, with the options that all commands have."""
-    add_color(parser, "auto")
+    _add_common(parser, "auto", False)
     add_version(parser)
     return parser
 
 
-def add_color(parser, default=argparse.SUPPRESS):
-    """Adds --color to the options of a command, or of one of its forms."""
-    parser.add_argument("--color", choices=["auto", "always", "never"], default=default, metavar="WHEN",
+def _add_common(parser, color, is_quiet):
+    """Adds the options that a command and each of its parts have, with these values if they aren't given."""
+    parser.add_argument("--color", choices=["auto", "always", "never"], default=color, metavar="WHEN",
                         help="colours: auto (on a terminal, unless NO_COLOR is set), always or never")
+    parser.add_argument("--quiet", action="store_true", default=is_quiet, help="write no notes to standard error")
+
+
+def add_programs(parser, has_bounds=False):
+    """Adds the options that name the programs."""
+    parser.add_argument("--zsched", metavar="PATH", help="the program (ZSCHED, the built or the installed one)")
+    if has_bounds:
+        parser.add_argument("--bounds", metavar="PATH", help="zsched-bounds (ZSCHED_BOUNDS, the built or installed)")
 
 
 def script(parser, work):
@@ -127,14 +176,19 @@ class Paint:
         return f"\x1b[{_CODES[style]}m{text}\x1b[0m" if self.is_on and text else text
 
 
+class Part(Parser):
+    """The parser of a part of a command, with the options of the whole."""
+
+    def __init__(self, **texts):
+        super().__init__(**texts)
+        _add_common(self, argparse.SUPPRESS, argparse.SUPPRESS)
+
+
 def forms(tool, description, epilog, metavar):
     """The parser of a command of several forms, and what adds a form, by `add_parser`."""
-    def form(**words):
-        made = Parser(**{"epilog": epilog} | words)
-        add_color(made)
-        return made
     whole = complete(parser(tool, description, epilog))
-    return whole, whole.add_subparsers(required=True, metavar=metavar, parser_class=form)
+    return whole, whole.add_subparsers(required=True, metavar=metavar,
+                                       parser_class=lambda **texts: Part(**{"epilog": epilog} | texts))
 
 
 def number(least, most, words):
@@ -167,9 +221,20 @@ def new_folder(path):
         shutil.rmtree(making, ignore_errors=True)
 
 
-def color(choice):
-    """Sets when the last line of a command is coloured: auto, always or never."""
-    _colored[0] = choice
+def choose(given):
+    """Sets when the last line of a command is coloured, and whether it writes notes."""
+    _colored[0], _quiet[0] = given.color, given.quiet
+
+
+def is_quiet():
+    """Whether --quiet is given."""
+    return _quiet[0]
+
+
+def note(text, tool=None):
+    """Writes a line on standard error about a run that goes on, unless --quiet is given."""
+    if not is_quiet() and sys.stderr is not None:
+        print(f"{tool or os.path.basename(sys.argv[0])}: {text}", file=sys.stderr, flush=True)
 
 
 def standard_input():
@@ -192,7 +257,7 @@ def read(path, most=-1):
 
 
 def write(path, data):
-    """Writes a file, a text or bytes; - is standard output."""
+    """Writes a text or bytes to a file; - is standard output."""
     data = data.encode() if isinstance(data, str) else data
     if path == "-":
         sys.stdout.flush()
@@ -214,7 +279,8 @@ def naming(path):
 
 
 def _told(tool, text, status):
-    """Writes why a command ends. Returns its status."""
+    """Writes why a command ends. Returns its status, also if standard error can't be written."""
     if sys.stderr is not None:
-        print(Paint(_colored[0], sys.stderr)("bad", f"{tool}: {text}"), file=sys.stderr)
+        with contextlib.suppress(OSError):
+            print(Paint(_colored[0], sys.stderr)("bad", f"{tool}: {text}"), file=sys.stderr)
     return status

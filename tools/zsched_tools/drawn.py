@@ -8,20 +8,20 @@ must be equal, with one draw."""
 import functools
 import itertools
 import re
-import sys
 from fractions import Fraction
 from math import ceil, floor
 from typing import Callable, NamedTuple
 
 from zsched_tools import hints, program, schedule_rules
-from zsched_tools.command import REFUSED, Refused
+from zsched_tools.command import REFUSED, Refused, note
 from zsched_tools.durations import milliseconds
 from zsched_tools.hints import TABLE
 from zsched_tools.place import Cause, FaultAt, told
 from zsched_tools.policy import spelling
 from zsched_tools.positions import MAX_WHOLE
 from zsched_tools.program import LAST_MOMENT
-from zsched_tools.trials import plain_name, plan_of, waits_in
+from zsched_tools.reports import attempts_in
+from zsched_tools.trials import plain_name, plan_of, waits_between
 from zsched_tools.words import duration
 
 MOST_DELAYS = 240
@@ -166,7 +166,7 @@ class Policy:
             lines.append(f"has a limit of the call, {duration(self.deadline)}, which --require-end @ takes")
         left_out = " | ".join([*([] if is_limited else limit), *self.left_out])
         for line in [*lines, *([f"leaves out {left_out}"] if left_out else [])]:
-            print(f"{tool}: {self.text} {line}", file=sys.stderr)
+            note(f"{self.text} {line}", tool)
 
     def cause_at(self, source, cause):
         """A cause in the schedule of a draw as one in the policy: a piece with sugar is one place."""
@@ -358,7 +358,7 @@ def waits_of(zsched, schedule):
         raise FaultAt(schedule_rules.any_cause(schedule, line.partition("schedule: ")[2]))
     if status:
         raise ChildProcessError(line)
-    return waits_in(report), b"\nend failed" in report
+    return waits_between(attempts_in(report)), b"\nend failed" in report
 
 
 def _jittered(zsched, inner, at, ends):

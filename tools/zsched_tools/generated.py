@@ -30,11 +30,6 @@ def _parsers(parser):
                             for word, one in it.choices.items())]
 
 
-def flags_of(parser):
-    """The options of a command and of its parts, as they are written."""
-    return sorted({flag for _, one in _parsers(parser) for it in _options(one) for flag in it.option_strings})
-
-
 def _options(parser):
     return [it for it in parser._actions if it.option_strings]
 

@@ -113,6 +113,8 @@ def _whole_help(node, key):
         return _number_help(node.source, key)
     if node.kind == "text":
         said = node.string()
+        if key in TIMES and re.match(r"\s*-\s*[0-9]", said):
+            return "a time has no sign"
         if key in TIMES and in_milliseconds(said):
             return in_milliseconds(said).replace(":", ", without quotes:", 1)
         if re.fullmatch(r"0|[1-9][0-9]{0,18}", said.strip()):

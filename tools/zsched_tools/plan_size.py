@@ -7,7 +7,7 @@ import sys
 from typing import NamedTuple
 
 from zsched_tools import program, schedule_rules
-from zsched_tools.command import Paint
+from zsched_tools.command import Paint, note
 
 MOST_ATTEMPTS = 10**6
 # From which number of nodes on a schedule pays for more workers than one, and a batch of schedules for its thread.
@@ -37,7 +37,7 @@ class Bound(NamedTuple):
 def warn(tool, found, color="auto"):
     """Writes a warning to standard error, if there is one."""
     if found and sys.stderr is not None:
-        print(f"{tool}: {Paint(color, sys.stderr)('strong', 'warning')}: {found}", file=sys.stderr, flush=True)
+        note(f"{Paint(color, sys.stderr)('strong', 'warning')}: {found}", tool)
 
 
 def warning(plan, limit=MOST_ATTEMPTS, times=1):
@@ -46,7 +46,8 @@ def warning(plan, limit=MOST_ATTEMPTS, times=1):
     most = (_found(plan, lambda tree: sum(_attempts(job, _clock(tree)) for job in tree["jobs"])) or 0) * times
     if most <= limit:
         return None
-    return f"its attempts may be {most:.1e}, more than {limit}: the run may be long, and its report large"
+    count = f"{most:,.0f}" if most < 10**16 else "more than 10^16"
+    return f"its attempts may be {count}, more than {limit:,}: the run may be long, and its report large"
 
 
 def workers_warning(plan):

@@ -2,15 +2,17 @@
 import contextlib
 import functools
 import json
+import math
 import os
 import pathlib
 import re
 import shutil
 import subprocess
-import sys
 import tempfile
+import time
 
-from zsched_tools.command import Refused, naming
+from zsched_tools.command import Refused, naming, note
+from zsched_tools.progress import Waiting
 
 # The limits of a plan: its bytes, its jobs, the entries of a script, of which the last one repeats, and its last
 # moment.
@@ -68,8 +70,7 @@ def is_proved(path):
 
 @functools.cache
 def _say_unproved():
-    tool = os.path.basename(sys.argv[0])
-    print(f"{tool}: takes the programs that ./run built, unproved (./run --proved proves them)", file=sys.stderr)
+    note("takes the programs that ./run built, unproved (./run --proved proves them)")
 
 
 def job_text(name, schedule, entries, mode="retry", start=None):
@@ -104,12 +105,32 @@ def run(program, given, seconds=None, options=()):
     with naming(tempfile.gettempdir()), tempfile.TemporaryFile() as read, tempfile.TemporaryFile() as written:
         read.write(given)
         read.seek(0)
-        with starting(program):
-            ended = subprocess.run([program, *options], stdin=read, stdout=written, stderr=subprocess.PIPE,
-                                   timeout=seconds,
-                                   check=False)
+        with starting(program), subprocess.Popen([program, *options], stdin=read, stdout=written,
+                                                 stderr=subprocess.PIPE) as running:
+            try:
+                errors = _errors_of(running, written, seconds)
+            except BaseException:
+                running.kill()
+                raise
         written.seek(0)
-        return ended.returncode, written.read(), ended.stderr
+        return running.returncode, written.read(), errors
+
+
+def _errors_of(running, written, seconds):
+    """Waits for the end of a program, and returns its standard error. A program that writes something else than a
+    report or JSON isn't waited for."""
+    program, end, step = running.args[0], math.inf if seconds is None else time.monotonic() + seconds, 0.05
+    with Waiting(os.path.basename(program)) as waiting:
+        while True:
+            try:
+                return running.communicate(timeout=max(0, min(step, end - time.monotonic())))[1]
+            except subprocess.TimeoutExpired:
+                if os.pread(written.fileno(), 1, 0) not in (b"", b"j", b"p", b"{"):
+                    raise ChildProcessError(f"{program} wrote no report") from None
+                if time.monotonic() >= end:
+                    raise
+                waiting.add(step)
+                step = min(1, 2 * step)
 
 
 @contextlib.contextmanager

@@ -1,14 +1,17 @@
 """A line on a terminal that shows what a long command does, and its progress."""
+import os
 import sys
 import threading
 import time
+
+from zsched_tools import command
 
 FIRST, EVERY = 2.0, 1.0
 
 
 def is_shown():
-    """Whether standard error is a terminal."""
-    return sys.stderr is not None and sys.stderr.isatty()
+    """Whether standard error is a terminal, without --quiet."""
+    return sys.stderr is not None and sys.stderr.isatty() and not command.is_quiet()
 
 
 def write(line):
@@ -40,8 +43,24 @@ class Progress:
             self.is_shown = False
 
 
+class Waiting(Progress):
+    """Shows for how many seconds a program runs, unless a Now is open."""
+
+    def __init__(self, name):
+        super().__init__(os.path.basename(sys.argv[0]), lambda done: f"{name} runs, {done:.0f} s")
+        self.next = self.next if not Now.opened else float("inf")
+
+    def __enter__(self):
+        return self
+
+    def __exit__(self, *_):
+        self.close()
+
+
 class Now:
     """Shows what a command does now, with the seconds since it began, as long as the context is open."""
+
+    opened = 0
 
     def __init__(self, every=EVERY):
         self.every, self.words = every, ""
@@ -54,11 +73,13 @@ class Now:
         self.words = words
 
     def __enter__(self):
+        Now.opened += 1
         if self.thread:
             self.thread.start()
         return self
 
     def __exit__(self, *_):
+        Now.opened -= 1
         self.stopped.set()
         if self.thread:
             self.thread.join()

@@ -283,6 +283,12 @@ def records(file, progress=None):
     reader.close()
 
 
+def joined(reports):
+    """The report of all jobs, from those of the plans that have them in order."""
+    bodies, totals = zip(*(re.fullmatch(rb"(.*\n|)polls (\d+)\n", report, re.S).groups() for report in reports))
+    return b"".join(bodies) + b"polls %d\n" % sum(map(int, totals))
+
+
 def blocks_of(report):
     """The jobs of a report's bytes, each from its first line on; the last one with the total."""
     begin = 0

@@ -67,6 +67,6 @@ def command(tool, arguments, work):
     def main():
         from zsched_tools import command
         given = parsed(arguments())
-        command.color(given.color)
+        command.choose(given)
         return run(tool, lambda: work(given))
     return main

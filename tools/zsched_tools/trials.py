@@ -18,14 +18,19 @@ def plain_name(text, allowed="._"):
 
 def job_names(policies):
     """A name for the job of each Policy: its own, or one made of its text."""
-    names = []
+    numbers = {}
     for policy in policies:
-        plain = policy.name or plain_name(policy.text, "")
-        name, number = plain, 2
-        while name in names:
-            name, number = f"{plain}-{number}", number + 1
-        names.append(name)
-    return names
+        name = plain = policy.name or plain_name(policy.text, "")
+        while name in numbers:
+            numbers[plain] += 1
+            name = f"{plain}-{numbers[plain]}"
+        numbers[name] = 1
+    return list(numbers)
+
+
+def entries_text(script):
+    """The entries of a script as JSON."""
+    return ",".join(f'{{"ms":{ms},"{word}":{value}}}' for ms, word, value in script)
 
 
 def plan_of(horizon, mode, jobs):
@@ -55,16 +60,17 @@ class Tried:
                 f"(waited {duration(self.waited)}, longest wait {duration(self.longest)})")
 
 
-def waits_in(block):
-    """The waits between the attempts of a job in a report."""
-    return [int(after[0]) - int(before[1]) for before, after in itertools.pairwise(attempts_in(block))]
+def waits_between(attempts):
+    """The waits between attempts of a report."""
+    return [int(after[0]) - int(before[1]) for before, after in itertools.pairwise(attempts)]
 
 
 def tried_in(report):
     """The result of each job in a report's bytes."""
     for block in blocks_of(report):
         how, result, at = ending_in(block)
-        attempts, waits = attempts_in(block), waits_in(block)
+        attempts = attempts_in(block)
+        waits = waits_between(attempts)
         if how == "unfinished" and attempts:
             waits.append(at - int(attempts[-1][1] or at))
         result = result if len(result) <= WIDEST_RESULT else result[:WIDEST_RESULT - 2] + ".."

@@ -1,4 +1,6 @@
 """Durations, numbers, lists and tables as people read them."""
+import re
+import textwrap
 
 # How wide a line that is shown may be.
 WIDTH = 100
@@ -52,3 +54,25 @@ def table(rows, left=3):
         cells = [cell.ljust(width) if place < left else cell.rjust(width)
                  for place, (cell, width) in enumerate(zip(row, widths))]
         yield "  ".join(cells).rstrip()
+
+
+def wrapped(text, width):
+    """The lines of a text within a width. A line without indentation continues a paragraph; one with columns is wrapped
+    in its last one; other lines, and examples that begin with $, stay as they are."""
+    items = []
+    for paragraph in text.split("\n\n"):
+        items += [(0, "")] if items else []
+        last = None
+        for line in paragraph.split("\n"):
+            columns = None if re.search(r"^ *\$ ", paragraph, re.M) else re.match(r" *(?:- |\S.*? {2,}(?=\S))", line)
+            indent = len(line) - len(line.lstrip())
+            hang = columns.end() if columns else 0 if indent == 0 and line else None
+            if last is not None and columns is None and indent == last:
+                items[-1] = last, f"{items[-1][1]} {line.lstrip()}"
+            else:
+                last = hang
+                items.append((hang, line))
+    for hang, line in items:
+        more = textwrap.wrap(line[hang or 0:], max(width - (hang or 0), 30), break_long_words=False,
+                             break_on_hyphens=False) if hang is not None else []
+        yield from [line[:hang] + more[0], *(" " * hang + it for it in more[1:])] if more else [line]

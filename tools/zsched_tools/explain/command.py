@@ -1,4 +1,6 @@
 """The command zsched-explain: runs the program on a plan, and shows the place of its fault in the plan."""
+import contextlib
+import json
 import sys
 
 from zsched_tools import command, faults, place, plan_size, program, starting
@@ -31,8 +33,7 @@ def words():
     found = command.parser(TOOL, ABOUT, STATUSES)
     found.add_argument("plan", nargs="?", default="-", metavar="PLAN.json",
                        help="the plan's file; standard input by default, or if it is -")
-    found.add_argument("--zsched", metavar="PATH",
-                       help="the program; by default that of the variable ZSCHED, else the built or the installed one")
+    command.add_programs(found)
     found.add_argument("--all", action="store_true", help="show all faults of the plan, not only the first")
     count = command.number(1, 10000, "{} isn't a number from 1 to 10000")
     found.add_argument("--most", type=count, default=MOST_FAULTS, metavar="N",
@@ -45,12 +46,24 @@ def _explain(taken):
     zsched = program.find(taken.zsched)
     data = command.read(taken.plan, program.MAX_BYTES + 1)
     many = plan_size.warning(data)
-    for found in [many, plan_size.workers_warning(data)]:
+    for found in [many, plan_size.workers_warning(data), repeated_key(data)]:
         plan_size.warn(TOOL, found, taken.color)
     status, line = outcome(zsched, plan_size.with_one_tick(data) if many else data)
     if status == command.REFUSED and taken.all:
         return _tell_all(name, zsched, data, taken.most, paint)
     return tell(name, data, status, line, paint)
+
+
+def repeated_key(data):
+    """The warning for a plan's bytes in which an object has a key twice, else None."""
+    found = []
+
+    def read(pairs):
+        keys = [key for key, _ in pairs]
+        found.extend(key for number, key in enumerate(keys) if len(set(keys)) < len(keys) and key in keys[:number])
+    with contextlib.suppress(ValueError, RecursionError):
+        json.loads(data, object_pairs_hook=read)
+    return f'an object has the key "{shown(found[0])}" twice, and the last one counts' if found else None
 
 
 def _tell_all(name, zsched, data, most, paint):

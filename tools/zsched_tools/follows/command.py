@@ -181,9 +181,9 @@ def work(given):
     if not log.has_moments:
         raise Refused(f"{log.path}:1: no known column has the moments of attempts: --begin COLUMN names it")
     told = log.told if log.has_lengths else f"{log.told}; no column has an end or a length: attempts take no time"
-    print(f"{TOOL}: {log.path}: {told}", file=sys.stderr)
+    command.note(f"{log.path}: {told}", TOOL)
     for place, text in notes.lines():
-        print(f"{TOOL}: {log.path}:{log.word}{place}: {text}", file=sys.stderr)
+        command.note(f"{log.path}:{log.word}{place}: {text}", TOOL)
     counts, paint = Counts(), command.Paint(given.color, sys.stdout)
     found = differences(log, policy.ends(), given, counts)
     if given.json:
@@ -205,7 +205,7 @@ def arguments():
                         help="how far from its moment an attempt may begin (50ms)")
     parser.add_argument("--json", action="store_true", help="print one object")
     call_log.add_options(parser.add_argument_group("columns"))
-    parser.add_argument("--zsched", metavar="PATH", help="the program (ZSCHED, the built or the installed one)")
+    command.add_programs(parser)
     return command.complete(parser)
 
 

@@ -15,6 +15,7 @@ from zsched_tools.outage.search import FIRST_LOOK, Search, Unsettled, name_of, s
 from zsched_tools.place import FaultAt, in_file, tell
 from zsched_tools.program import MOST_JOBS, cut_plans
 from zsched_tools.progress import Now
+from zsched_tools.reports import joined
 from zsched_tools.words import duration, plural
 
 TOOL = "zsched-outage"
@@ -132,16 +133,6 @@ def simulate(scenario, zsched, name, most_passes, say):
     return jobs, plans, reports, Figures(scenario, text, clients, list(map(name_of, others)), search.passes + 1)
 
 
-def _joined(reports):
-    """The report of all jobs, from those of the plans that have them in order."""
-    bodies, total = [], 0
-    for report in reports:
-        body, _, last = report.rstrip(b"\n").rpartition(b"\n")
-        bodies.append(body + b"\n")
-        total += int(last.removeprefix(b"polls "))
-    return b"".join(bodies) + b"polls %d\n" % total
-
-
 def write_files(folder, name, horizon, found):
     jobs, plans, reports, figures = found
     if len(plans) == 1:
@@ -149,7 +140,7 @@ def write_files(folder, name, horizon, found):
     else:
         lines = [f'{{"horizon":{horizon}}}', *jobs]
         command.write(folder / f"{name}.jsonl", "".join(f"{line}\n" for line in lines))
-    command.write(folder / f"{name}.report", _joined(reports))
+    command.write(folder / f"{name}.report", joined(reports))
     command.write(folder / f"{name}.csv", figures.curve.csv())
 
 
@@ -167,9 +158,8 @@ def warn_of_lines(name, schedules):
     """Warns, before a policy runs, if its jobs exceed one plan; it checks only the schedules of the clients."""
     count, size = len(schedules), sum(map(len, schedules))
     if count > MOST_JOBS or size > program.MAX_BYTES:
-        print(f"{TOOL}: policy {name}: {count:,} jobs with schedules of {size:,} bytes are more than one plan of "
-              f"{MOST_JOBS:,} jobs and {program.MAX_BYTES:,} bytes: it is written as JSON lines",
-              file=sys.stderr)
+        command.note(f"policy {name}: {count:,} jobs with schedules of {size:,} bytes are more than one plan of "
+                     f"{MOST_JOBS:,} jobs and {program.MAX_BYTES:,} bytes: -o writes it as JSON lines", TOOL)
 
 
 def _all(given, scenario, zsched):
@@ -187,8 +177,8 @@ def _all(given, scenario, zsched):
                 write_files(folder, name, scenario.horizon, found)
             figures[name] = found[-1]
             if scenario.policies[name][0].is_cut and figures[name].gave_up > figures[name].denied:
-                print(f"{TOOL}: policy {name}: clients that gave up came to the end of a schedule that leaves out "
-                      "later waits", file=sys.stderr)
+                command.note(f"policy {name}: clients that gave up came to the end of a schedule that leaves out later "
+                             "waits", TOOL)
     if given.svg:
         command.write(given.svg, "".join(f"{line}\n" for line in draw_curves(scenario, figures)))
     if given.html:
@@ -236,6 +226,7 @@ def work(given):
     try:
         zsched = program.find(given.zsched)
         scenario = read_scenario(data)
+        scenario.title = given.title
         if given.max_recovery is not None and scenario.back is None:
             raise Refused(f"{name}: --max-recovery needs a window that is down and ends before the horizon")
         _check_policies(scenario, zsched)
@@ -275,6 +266,7 @@ def arguments():
     parser.add_argument("--svg", metavar="FILE", help="a picture of the curves under one axis; - in place of the table")
     parser.add_argument("--html", metavar="FILE",
                         help="a page with the picture and the table, for any width; - in place of the table")
+    parser.add_argument("--title", default="", help="the first words above the picture")
     parser.add_argument("--json", action="store_true", help="print one object in place of the table")
     parser.add_argument("--max-peak", type=_peak, metavar="N[/TIME]",
                         help="the most attempts that may begin within a second, or within TIME, as 50/100ms")
@@ -286,7 +278,7 @@ def arguments():
     passes = command.number(1, 99999, "{} isn't a number of passes from 1 to 99999")
     parser.add_argument("--passes", type=passes, default=MOST_PASSES, metavar="N",
                         help=f"the most passes before the certificate ({MOST_PASSES})")
-    parser.add_argument("--zsched", metavar="PATH", help="the program (ZSCHED, the built or the installed one)")
+    command.add_programs(parser)
     return command.complete(parser)
 
 

@@ -192,8 +192,8 @@ def headline(scenario):
     windows = [f"{state_words(it)} from {seconds(it.begin)}" + f" to {seconds(it.end)}" * (it.end <= LAST_MOMENT)
                for it in scenario.windows]
     budget = [f"a budget like {scenario.budget.like}'s"] if scenario.budget is not None else []
-    return "; ".join([f"{clients} {scenario.coming}", *windows, *budget, f"until {duration(scenario.horizon)}",
-                      f"seed {scenario.seed}"])
+    return "; ".join([*filter(None, [scenario.title]), f"{clients} {scenario.coming}", *windows, *budget,
+                      f"until {duration(scenario.horizon)}", f"seed {scenario.seed}"])
 
 
 def seconds(moment):

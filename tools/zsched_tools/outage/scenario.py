@@ -71,6 +71,7 @@ class Scenario:
     outcomes: list = field(default_factory=list)
     budget: Budget | None = None
     policies: dict = field(default_factory=dict)
+    title: str = ""
 
     @property
     def back(self):

@@ -262,8 +262,7 @@ def add_command(forms):
     form.add_argument("--windows", action="store_true", help="a scenario for zsched-outage, not a plan")
     form.add_argument("--by-attempt", action="store_true", help="the k-th attempt of a job ends as the k-th in the log")
     call_log.add_options(log)
-    given.add_argument("--zsched", metavar="PATH",
-                       help="the program; by default that of ZSCHED, else the built or the installed one")
+    command.add_programs(given)
     given.set_defaults(work=_from)
 
 
@@ -296,7 +295,7 @@ def _from(given):
 
 
 def _say(text):
-    print(f"zsched-plan: {text}", file=sys.stderr)
+    command.note(text, "zsched-plan")
 
 
 def _report(notes, path, line):

@@ -236,9 +236,7 @@ def arguments():
                            "program, or a port that isn't free.")
     port = command.number(0, 65535, "{} is not a port: 0 to 65535")
     words.add_argument("--port", type=port, default=PORT, help=f"the port ({PORT}); 0 picks a free one")
-    words.add_argument("--zsched", metavar="PATH", help="the program (ZSCHED, or the one that is built or on PATH)")
-    words.add_argument("--bounds", metavar="PATH",
-                       help="zsched-bounds (ZSCHED_BOUNDS, or the one that is built or on PATH)")
+    command.add_programs(words, True)
     return command.complete(words)
 
 

@@ -16,7 +16,7 @@ from zsched_tools.policy.telling import canonical, told_apart
 from zsched_tools.program import LAST_MOMENT
 from zsched_tools.reports import attempts_in, blocks_of
 from zsched_tools.trials import tried_in
-from zsched_tools.trying.command import add_attempts, add_programs, bounds_of_all, driver_of, entries_of, of_all, tried
+from zsched_tools.trying.command import add_attempts, as_object, bounds_of_all, driver_of, entries_of, of_all, tried
 from zsched_tools.words import duration, listed, plural, shown
 
 TOOL = "zsched-policy"
@@ -109,6 +109,7 @@ def _add_diff(forms):
     given.add_argument("policies", metavar="A", help="a schedule")
     given.add_argument("other", metavar="B", help="another one")
     add_attempts(given)
+    given.add_argument("--json", action="store_true", help="print one object")
     given.set_defaults(work=_diff)
 
 
@@ -181,18 +182,27 @@ def _diff(given):
     if report is None:
         return REFUSED
     found, bounds = list(tried_in(report)), bounds_of_all(given)
+    lines = list(_differences(given, report, found, bounds))
+    if given.json:
+        objects = map(as_object, given.read, found, bounds)
+        print(json.dumps({**dict(zip("ab", objects)), "differences": lines}))
+        return NO if lines else 0
     for name, policy, result, bound in zip("AB", given.read, found, bounds):
         every = f"\n   {bounding.mark(bound)}{of_all(given, policy)}: {bound.line()}" if bound else ""
         print(f"{name}  {policy.text}\n   {result.line()}{every}")
+    print("\n".join(lines) or "no difference")
+    return NO if lines else 0
+
+
+def _differences(given, report, found, bounds):
+    """What differs between two policies, in lines."""
     scope = of_all(given, *given.read)
     lines = [*filter(None, [_here(*found)]), *itertools.islice(_first(blocks_of(report)), 1),
              *([] if None in bounds else map(bounding.mark(*bounds).__add__, _always(scope, *bounds)))]
     if not lines and len(set(map(canonical, given.read))) > 1:
         first, limits = entries_of(given, given.read[0])[0], driver_of(given, given.read[0]).attempt or (1, LAST_MOMENT)
         lines = told_apart(program.find(given.zsched), given.read, given.mode, first, limits, given.seed)
-    lines += _settings(*given.read)
-    print("\n".join(lines) or "no difference")
-    return NO if lines else 0
+    return [*lines, *_settings(*given.read)]
 
 
 def _explain(given):
@@ -306,7 +316,7 @@ def _arguments():
     _add_diff(forms)
     given = forms.add_parser("explain", description=EXPLAIN, epilog=EXPLAIN_EPILOG, help="a policy in words")
     given.add_argument("policy", metavar="POLICY", help="a schedule, or a text that zsched-try takes")
-    add_programs(given)
+    command.add_programs(given, True)
     given.set_defaults(work=_explain)
     return parser
 

@@ -225,8 +225,9 @@ def _polly(node, around):
         raise Wrong(kind.line, f'"{word}" is not Constant, Linear or Exponential')
     is_random = fields.get(truth, "usejitter", default=is_http)
     left_out, timeout = fields.left_out(), None
-    if is_http:
-        left_out += [name for name in around.data if plain(name) in ("circuitbreaker", "ratelimiter")]
+    if around is not None and around.is_table():
+        left_out += [name for name in around.data
+                     if plain(name) in ("circuitbreaker", "ratelimiter", "timeout", "hedging", "fallback")]
     timeout, deadline = (part(part(around, name), "timeout") for name in ["attempttimeout", "totalrequesttimeout"])
     timeout, deadline = (it and duration(it, DAY) for it in (timeout, deadline))
     jitter, draws = {"kind": "proportional", "percent": 25} if is_random else None, None

@@ -2,6 +2,7 @@
 import argparse
 import gc
 import os
+import re
 import sys
 
 from zsched_tools import command, load, starting
@@ -58,7 +59,9 @@ def _with_source(given, work):
         with open(given.file, "rb") as binary:
             return work(binary, _progress(os.fstat(binary.fileno()).st_size))
     except Refused as refused:
-        raise Refused(f"{given.file or 'standard input'}: {refused}") from None
+        is_plan = re.match(r"""line 1 .*: '\{('|.*"(horizon|ticks|jobs)")""", str(refused))
+        hint = "; this is a plan, and zsched writes its report" if is_plan else ""
+        raise Refused(f"{given.file or 'standard input'}: {refused}{hint}") from None
 
 
 def _progress(size):
@@ -81,8 +84,9 @@ def _lines(given):
 
 def _load(given):
     found = _with_source(given, lambda file, progress: load.read(file, given.every, progress))
-    form = load.csv if given.csv else load.text if not given.svg else lambda it: draw_strip(it, given.title)
-    for line in form(found):
+    if given.svg:
+        command.write(given.svg, "".join(f"{line}\n" for line in draw_strip(found, given.title)))
+    for line in () if given.svg == "-" else (load.csv if given.csv else load.text)(found):
         _write(f"{line}\n")
 
 
@@ -130,9 +134,8 @@ def _add_load(one):
     one.add_argument("--every", metavar="TIME", type=_step, default=load.SECOND,
                      help="the length of a step, such as 250ms, 1s or 5min (1s)")
     one.add_argument("--title", default="", help="the text above the picture")
-    form = one.add_mutually_exclusive_group()
-    form.add_argument("--csv", action="store_true", help="comma-separated values, with moments in milliseconds")
-    form.add_argument("--svg", action="store_true", help="a picture")
+    one.add_argument("--csv", action="store_true", help="comma-separated values, with moments in milliseconds")
+    one.add_argument("--svg", metavar="FILE", help="a picture; - is standard output, without the table")
 
 
 def _add_picture(one):

@@ -1,6 +1,7 @@
 """The command zsched-try: what policies do, a line each."""
 import argparse
 import io
+import json
 import re
 import sys
 from dataclasses import replace
@@ -11,11 +12,11 @@ from zsched_tools.command import REFUSED, Paint, Refused
 from zsched_tools.drawn import Policy, every, seeded
 from zsched_tools.durations import duration_argument
 from zsched_tools.place import FaultAt, tell
-from zsched_tools.program import LAST_MOMENT
-from zsched_tools.progress import Now
+from zsched_tools.program import LAST_MOMENT, cut_plans, job_text
 from zsched_tools.schedule_rules import any_cause
 from zsched_tools.strip import crowd_of, draw_crowd
-from zsched_tools.trials import MOST_AFTER, job_names, plan_of, tried_in
+from zsched_tools.reports import joined
+from zsched_tools.trials import MOST_AFTER, entries_text, job_names, plan_of, tried_in
 from zsched_tools.trying import layers
 from zsched_tools.words import duration, plural
 
@@ -207,21 +208,38 @@ def of_all(given, *policies):
 
 
 def _draw(given, report):
+    """Draws the run, if a picture is asked for."""
+    if not given.svg:
+        return
     notes = [f"{name}: {it.source}" for name, it in zip(job_names(given.read), given.read)]
-    for line in draw_crowd(crowd_of(io.BytesIO(report), []), given.title, notes=notes):
-        print(line)
+    lines = draw_crowd(crowd_of(io.BytesIO(report), []), given.title, notes=notes)
+    command.write(given.svg, "".join(f"{line}\n" for line in lines))
+
+
+def as_object(policy, found, bounds):
+    """The result of a policy and its bounds, as an object of JSON."""
+    limits = bounds and ((None, None) if bounds.is_cut else bounds.limits())
+    return {"policy": policy.text, "schedule": policy.spelled, "how": found.how, "result": found.result,
+            "end_ms": found.at, "attempts": found.attempts, "waited_ms": found.waited, "longest_wait_ms": found.longest,
+            "for_every_input": bounds and {
+                "is_proved": bounds.is_proved, "never_gives_up": bounds.is_endless, "least_attempts": bounds.least,
+                "most_attempts": bounds.most, "longest_wait_ms": limits[0], "waited_ms": limits[1],
+                "end_ms": None if bounds.run is None or bounds.run > LAST_MOMENT else bounds.run}}
 
 
 def _print_all(given, report, all_bounds):
-    """The lines of the policies, or the picture; and the bounds that they exceed. Returns the status."""
-    if given.svg:
-        _draw(given, report)
+    """The lines of the policies, the object or the picture; and the bounds that they exceed. Returns the status."""
+    _draw(given, report)
+    found_ones = list(tried_in(report))
+    if given.json:
+        print(json.dumps({"policies": list(map(as_object, given.read, found_ones, all_bounds))}))
+    is_shown = not given.json and given.svg != "-"
     paint, status = Paint(given.color, sys.stdout), 0
     widest = max(map(len, given.policies)) + 2 if len(given.policies) > 1 else 0
     each = [entries_of(given, it)[0][0] for it in given.read]
     each = each if len(set(each)) > 1 else [None] * len(each)
-    for policy, found, bounds, length in zip(given.read, tried_in(report), all_bounds, each):
-        if not given.svg:
+    for policy, found, bounds, length in zip(given.read, found_ones, all_bounds, each):
+        if is_shown:
             style = "good" if found.how in ("succeeded", "finished") else "bad" if found.how == "failed" else "strong"
             ending, after, rest = found.line(length).partition(" after ")
             print((policy.text.ljust(widest) if widest else "") + paint(style, ending) + after + rest)
@@ -235,22 +253,20 @@ def _print_all(given, report, all_bounds):
     return status
 
 
-def _run(tool, given, plan):
-    """Runs the plan of the policies, and returns the report. FaultAt has a fault. If the plan may have many attempts, a
-    line on standard error says so before it runs."""
-    zsched, jobs, status = program.find(given.zsched), len(given.policies), 0
+def _run(tool, given, plan, first):
+    """Runs a plan of the policies from the number `first` on, and returns the report. FaultAt has a fault. If the plan
+    may have many attempts, a line on standard error says so before it runs."""
+    zsched, jobs, status = program.find(given.zsched), plan.count(b'"script":['), 0
     many = plan_size.warning(plan)
     if many:
         status, report, errors = program.report_of(zsched, plan_size.with_one_tick(plan), jobs)
     if not status:
         plan_size.warn(tool, many, given.color)
-        with Now() as progress:
-            progress.say("zsched runs the policies")
-            status, report, errors = program.report_of(zsched, plan, jobs)
+        status, report, errors = program.report_of(zsched, plan, jobs)
     line = program.failure(status, errors)
     place = re.fullmatch(r"zsched: job (\d+): schedule: (.+)", line)
     if status == REFUSED and place:
-        given.at = int(place[1])
+        given.at = first + int(place[1])
         cause = any_cause(given.schedules[given.at], place[2])
         raise FaultAt(given.read[given.at].cause_at(seeded(given.seed), cause))
     if status == REFUSED:
@@ -265,8 +281,11 @@ def tried(tool, given, is_plan=False):
     try:
         _read(given)
         jobs = zip(job_names(given.read), given.schedules, (entries_of(given, policy) for policy in given.read))
-        plan = plan_of(given.until, given.mode, jobs)
-        report = plan if is_plan else _run(tool, given, plan.encode())
+        if is_plan:
+            return plan_of(given.until, given.mode, jobs)
+        plans, most = cut_plans(given.until, [job_text(name, schedule, entries_text(script), given.mode)
+                                              for name, schedule, script in jobs])
+        report = joined([_run(tool, given, plan, number * most) for number, plan in enumerate(plans)])
     except FaultAt as fault:
         return _wrong(tool, given, fault.cause)
     for policy in given.read:
@@ -275,7 +294,7 @@ def tried(tool, given, is_plan=False):
             numbers = policy.numbers(seeded(given.seed))
             many = f" .. ({len(numbers)} in all)" if len(numbers) > MOST_SHOWN else ""
             drawn = ", ".join(numbers[:MOST_SHOWN]) or "nothing"
-            print(f"{tool}: {policy.text} with the seed {given.seed} draws {drawn}{many}", file=sys.stderr)
+            command.note(f"{policy.text} with the seed {given.seed} draws {drawn}{many}", tool)
     return report
 
 
@@ -283,8 +302,8 @@ def _check_requirements(given):
     """Warns of attempts beside which the waits alone say little."""
     total, longest = given.require_total, given.fails[0] if given.fails else 0
     if total is not None and 10 * longest > total:
-        print(f"{TOOL}: --require-total limits the waits alone, and each attempt of --fails takes {duration(longest)}; "
-              "--attempt and --require-end limit the whole call", file=sys.stderr)
+        command.note(f"--require-total limits the waits alone, and each attempt of --fails takes {duration(longest)}; "
+                     "--attempt and --require-end limit the whole call", TOOL)
 
 
 def work(given):
@@ -317,7 +336,7 @@ def _work_over(given):
     found, whole = made.bounds(path, driver) if path else ([], None)
     if given.svg:
         _draw(given, program.run_plan(made.zsched, made.plan(call)))
-    else:
+    if given.svg != "-":
         layers.show(made, call, found, whole, every(given.read))
     tried_whole = replace(call.tried, attempts=call.bottom())
     lines = [*_exceeded(given, outer, tried_whole), *(_not_proved(given, outer, whole) if whole else [])]
@@ -344,13 +363,7 @@ def add_attempts(parser):
                              "every input: 30s")
     parser.add_argument("--until", type=_time(0), default=_time(0)("1d"), metavar="TIME", help="the horizon: 1d")
     parser.add_argument("--seed", type=_count(2**64 - 1), default=0, metavar="N", help="of random waits (0)")
-    add_programs(parser)
-
-
-def add_programs(parser):
-    """Adds the options of the programs to a command's."""
-    parser.add_argument("--zsched", metavar="PATH", help="the program (ZSCHED, the built or the installed one)")
-    parser.add_argument("--bounds", metavar="PATH", help="zsched-bounds (ZSCHED_BOUNDS, the built or installed one)")
+    command.add_programs(parser, True)
 
 
 def arguments():
@@ -373,7 +386,8 @@ def arguments():
                         help="let --require-.. accept what a zsched-bounds says that ./run built unproved")
     printed = parser.add_mutually_exclusive_group()
     printed.add_argument("--plan", action="store_true", help="print the plan, and run nothing")
-    printed.add_argument("--svg", action="store_true", help="print the picture")
+    printed.add_argument("--json", action="store_true", help="print one object")
+    parser.add_argument("--svg", metavar="FILE", help="the picture; - is standard output, without the lines")
     parser.add_argument("--title", default="", help="the text above the picture")
     return command.complete(parser)
 

@@ -129,5 +129,7 @@ def refuse_options(given):
         if getattr(given, name) is not None:
             raise Refused(f"--{name.replace('_', '-')} is for a policy alone; --require-most and --require-end, "
                           "--max-attempts and --max-total hold for the whole of layers")
+    if given.json:
+        raise Refused("--json is for policies without --over")
     if given.mode != "retry" or len(given.policies) > 1:
         raise Refused("--over takes one POLICY, which retries")
