@@ -194,7 +194,8 @@ def planner(library, text):
 
 # Begins of spaced(30) after attempts of 5.9 ms and others, worked out by hand from the header.
 @pytest.mark.parametrize("turn, wanted", [
-    ({}, 35_000_000), ({"percent": 50, "draw": 2 ** 31}, 28_400_000), ({"percent": 100, "draw": 2 ** 32 - 1}, 5_900_001),
+    ({}, 35_000_000), ({"percent": 50, "draw": 2 ** 31}, 28_400_000),
+    ({"percent": 100, "draw": 2 ** 32 - 1}, 5_900_001),
     ({"percent": 2 ** 32 - 1, "draw": 2 ** 32 - 1}, 5_900_001), ({"least": 100, "longest": 1000}, 105_900_000),
     ({"least": 2 ** 64 - 1, "longest": 60_000}, 60_005_900_000), ({"least": 20, "longest": 2 ** 64 - 1}, 35_000_000),
     ({"began": 40_000_000}, 70_000_000), ({"ended": 2 ** 64 - 1}, None),
@@ -223,7 +224,8 @@ def test_a_loop_makes_no_more_attempts_than_its_bounds_say_whatever_its_clock_do
 
 
 # Attempts of 30 ms and the waits between them, by hand: 6 x 30 + 5 x 10, 4 x 30 + 10 + 20 + 40.
-@pytest.mark.parametrize("text, longest_run", [(b"(spaced(10) && recurs(5))", 230), (b"(exponential(10) && recurs(3))", 190)])
+@pytest.mark.parametrize("text, longest_run", [
+    (b"(spaced(10) && recurs(5))", 230), (b"(exponential(10) && recurs(3))", 190)])
 def test_a_loop_whose_attempts_are_in_time_ends_within_its_longest_run(library, text, longest_run):
     random.seed(0)
     calls, at, bounds = ctypes.CDLL(str(library / "libzsched.so")), ctypes.c_uint64(), array([0] * 9)[0]

@@ -226,7 +226,7 @@ turn-first t d [] planned turn short fits was keeps =
     (first-timed d.most d turn refl short fits (subst (λ n. KeepsTo d [] n turn) none keeps))
 turn-first t d (p ∷ h) planned turn short fits was keeps = was.so_far.1
 
--- an attempt that keeps to its driver ends within the longest run of its bounds
+-- an attempt that conforms to its driver ends within the longest run of its bounds
 pub turn-ends : (t : Schedule) (d : Driver) (h : History) (planned : ℕ) (turn : Turn) (b : Bounds)
     (r : ℕ) → d.least ≤ 1 → IsCounted turn
     → IsPlanned t d h planned → KeepsTo d h planned turn → Promises t d b → b.longest_run ≡ Some r

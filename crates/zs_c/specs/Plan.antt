@@ -2,7 +2,7 @@
 -- and ended some nanoseconds after the first attempt began. Moments are milliseconds after that.
 use Rattle.std.specs.Prelude.{◌≡◌, ℕ, ◌+◌, ◌-◌, ◌*◌, ◌/◌, ◌≤◌, min, max, nat_le}
 use Rattle.std.specs.Prelude.{if◌then◌else◌, Option, Some, None, List, [], ◌∷◌, length, drop}
-use Rattle.zs_term.specs.Saturating.{saturated}
+use Rattle.zs_term.specs.Saturating.{max_moment, saturated}
 use Rattle.zs_term.specs.Schedule.{Schedule}
 use Rattle.zs_step.specs.History.{History}
 use Rattle.zs_step.specs.Answer.{answer_of}
@@ -15,7 +15,7 @@ use Rattle.zs_c.specs.Program.{program_state, KeepsProgramState}
 abbrev pub nanos : ℕ → ℕ
 nanos ms = ms * 1000000
 
--- when the attempt ended: a clock that fell counts as one that stood still
+-- when the attempt ended: a clock that fell counts as one that did not move
 abbrev pub end_of : Turn → ℕ
 end_of turn = max turn.began turn.ended
 
@@ -36,7 +36,7 @@ share_of turn = min turn.percent 100 * turn.draw / 100
 abbrev pub rest_of : Turn → ℕ → ℕ
 rest_of turn wait = wait - wait * share_of turn / 4294967296
 
--- the least wait that counts: what the service asked for, and no more than the longest
+-- the least wait that counts: what the service requested, and no more than the longest
 abbrev pub asked_of : Turn → ℕ
 asked_of turn = min turn.least turn.longest
 
@@ -56,7 +56,7 @@ begin_of turn moment next =
 abbrev pub plan_of : Turn → ℕ → Decision → Option ℕ
 plan_of turn moment Stop = None
 plan_of turn moment (Next x) =
-    if nat_le (begin_of turn moment x) 18446744073709551615 then Some (begin_of turn moment x)
+    if nat_le (begin_of turn moment x) max_moment then Some (begin_of turn moment x)
     else None
 
 -- the step of a turn: its moment, and its input
@@ -95,7 +95,7 @@ pub record IsFair (turn : Turn) (moment next begin : ℕ) : Type 0 where
   pub exact : turn.percent ≡ 0 → nanos next ≤ begin
   -- with jitter, at least 100 - percent of the schedule's wait pass from the moment of the step on
   pub least : nanos moment * 100 + nanos (next - moment) * (100 - turn.percent) ≤ begin * 100
-  -- not after the schedule's next moment, or the earliest begin, unless a least wait asks for it
+  -- not after the schedule's next moment, or the earliest begin, unless a least wait requires it
   pub most : begin ≤ max (max (nanos next) (earliest_of turn moment))
       (end_of turn + nanos (asked_of turn))
 

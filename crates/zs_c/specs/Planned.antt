@@ -2,6 +2,7 @@
 -- its clock does. Readers of the headline trust this file, `Plan.antt`, and `Driven.antt` and
 -- `Bounds.antt` of `zs_bounds`.
 use Rattle.std.specs.Prelude.{◌≡◌, ℕ, ◌+◌, ◌-◌, ◌/◌, ◌<◌, ◌≤◌, min, Some, List, [], ◌∷◌, length}
+use Rattle.zs_term.specs.Saturating.{max_moment}
 use Rattle.zs_term.specs.Schedule.{Schedule}
 use Rattle.zs_step.specs.declared.decision.Decision.{Decision}
 use Rattle.zs_step.specs.declared.decision.Decision.TheVariants.{Stop, Next}
@@ -18,9 +19,9 @@ use Rattle.zs_c.specs.Program.{IsProgram, KeepsProgramState}
 
 -- the numbers of a turn fit 64 bits, and its draw 32
 pub record IsCounted (turn : Turn) : Type 0 where
-  pub began : turn.began ≤ 18446744073709551615
-  pub ended : turn.ended ≤ 18446744073709551615
-  pub input : turn.input ≤ 18446744073709551615
+  pub began : turn.began ≤ max_moment
+  pub ended : turn.ended ≤ max_moment
+  pub input : turn.input ≤ max_moment
   pub draw : turn.draw < 4294967296
 
 -- A driver allows what a turn may do: attempts of 1 millisecond, and its jitter and its least wait.
@@ -43,8 +44,8 @@ pub record IsInTime (v : Waits) (h : History) (planned : ℕ) (turn : Turn) (k :
   pub ends : turn.ended ≤ turn.began + nanos k
   pub some : 0 < k
 
--- An attempt keeps to a driver. If the driver limits no duration, each attempt does, whatever the
--- clock does: it may fall or jump, and the attempt may begin and end at any moment.
+-- An attempt conforms to a driver. If the driver limits no duration, each attempt does, whatever
+-- the clock does: it may fall or jump, and the attempt may begin and end at any moment.
 abbrev pub KeepsTo : Driver → History → ℕ → Turn → Type 0
 KeepsTo d h planned turn = (k : ℕ) → d.most ≡ Some k → IsInTime d.waits h planned turn k
 
@@ -72,7 +73,7 @@ HasPlanned t d (p ∷ h) planned =
 
 -- the begin of a loop's next attempt is planned, in nanoseconds of 64 bits
 pub record IsPlanned (t : Schedule) (d : Driver) (h : History) (planned : ℕ) : Type 0 where
-  pub counted : planned ≤ 18446744073709551615
+  pub counted : planned ≤ max_moment
   pub so_far : HasPlanned t d h planned
 
 -- What holds after a turn whose begin was planned. The driver can make the history, and if the next
@@ -87,7 +88,7 @@ pub record StaysWithin (t : Schedule) (d : Driver) (h : History) (turn : Turn) (
       → end_of turn / 1000000 ≤ r
 
 -- This holds for every schedule, driver and history whose state the words were before the turn, if
--- the attempt was planned, the driver allows the turn, and the attempt keeps to the driver.
+-- the attempt was planned, the driver allows the turn, and the attempt conforms to the driver.
 abbrev pub KeepsBounds : List ℕ → List ℕ → Turn → ℕ → ℕ → Type 0
 KeepsBounds program state turn number begin =
     (t : Schedule) (d : Driver) (h : History) (planned : ℕ) → IsProgram program t

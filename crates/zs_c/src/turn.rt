@@ -11,11 +11,11 @@ ghost use Rattle.zs_c.specs.Planned.{IsCounted};
 pub struct Turn {
     /// When the attempt began.
     pub began: u64,
-    /// When the attempt ended. If the clock fell since `began`, it counts as one that stood still.
+    /// When the attempt ended. If the clock fell since `began`, it counts as one that didn't move.
     pub ended: u64,
     /// The input of the schedule's step: under retry the error's code.
     pub input: u64,
-    /// The least wait that the service asked for, in milliseconds, or 0.
+    /// The least wait that the service requested, in milliseconds, or 0.
     pub least: u64,
     /// The longest least wait that counts, in milliseconds.
     pub longest: u64,

@@ -17,9 +17,9 @@ pub fn one_schedule()
         → t ≡ u }
 {}
 
-/// An attempt that was planned, and keeps to its driver, ends within the longest run of the bounds
-/// of that driver, whether it succeeds or fails. Times are counted from the begin of the first
-/// attempt.
+/// An attempt that was planned, and conforms to its driver, ends within the longest run of the
+/// bounds of that driver, whether it succeeds or fails. Times are counted from the begin of the
+/// first attempt.
 pub fn attempts_end_in_time()
     ensures law { (t : Schedule) (d : Driver) (h : History) (planned : ℕ) (turn : Turn) (b : Bounds)
         (r : ℕ) → d.least ≤ 1 → IsCounted turn → IsPlanned t d h planned → KeepsTo d h planned turn
