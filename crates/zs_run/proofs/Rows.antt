@@ -91,7 +91,6 @@ documents_have_their_faults : map (λ row. fault_of_text row.0) documents ≡ ma
 unfolding plans_on_literals
 documents_have_their_faults = refl
 
-
 -- ---- plans of one job or two
 
 -- the text of a plan with these jobs
@@ -200,7 +199,6 @@ lists_of_jobs =
 lists_of_jobs_have_their_faults : map (λ row. fault_of_jobs row.0) lists_of_jobs ≡ map (λ row. row.1) lists_of_jobs
 unfolding plans_on_literals
 lists_of_jobs_have_their_faults = refl
-
 
 -- a plan of one job, as a value
 abbrev one_retry_job : PlanRecord

@@ -99,16 +99,14 @@ answered =
     ∷ (leaf (spaced max_moment),
         (three, num 0 max_moment ∷ num 1 max_moment ∷ num 2 max_moment ∷ []))
     -- fixed running late
-    ∷ (leaf (fixed 100),
-        ((50, 1) ∷ (400, 1) ∷ (410, 1) ∷ (460, 1) ∷ [],
+    ∷ (leaf (fixed 100), ((50, 1) ∷ (400, 1) ∷ (410, 1) ∷ (460, 1) ∷ [],
         num 0 150 ∷ num 1 400 ∷ num 2 450 ∷ num 3 550 ∷ []))
     -- fixed at the edge of a period
     ∷ (leaf (fixed 100), ((50, 1) ∷ (250, 1) ∷ [], num 0 150 ∷ num 1 350 ∷ []))
     ∷ (leaf (fixed 100), ((50, 1) ∷ (251, 1) ∷ [], num 0 150 ∷ num 1 251 ∷ [])) -- fixed just behind
     ∷ (leaf (spaced 10), ((4, 1) ∷ (18, 1) ∷ [], num 0 14 ∷ num 1 28 ∷ [])) -- spaced waits
     -- linear delays
-    ∷ (leaf (linear 10),
-        ((1, 0) ∷ (12, 0) ∷ (33, 0) ∷ (64, 0) ∷ [],
+    ∷ (leaf (linear 10), ((1, 0) ∷ (12, 0) ∷ (33, 0) ∷ (64, 0) ∷ [],
         num 10 11 ∷ num 20 32 ∷ num 30 63 ∷ num 40 104 ∷ []))
     -- windowed waits for the boundary
     ∷ (leaf (windowed 100),
@@ -119,8 +117,7 @@ answered =
     ∷ (leaf (exponential half 2),
         (two_steps, num half 9223372036854775809 ∷ num max_moment max_moment ∷ []))
     -- fibonacci is cut
-    ∷ (leaf (fibonacci half),
-        ((0, 0) ∷ (0, 0) ∷ (1, 0) ∷ [],
+    ∷ (leaf (fibonacci half), ((0, 0) ∷ (0, 0) ∷ (1, 0) ∷ [],
         num half half ∷ num half half ∷ num max_moment max_moment ∷ []))
     -- linear is cut
     ∷ (leaf (linear half),
@@ -146,16 +143,14 @@ answered =
         ((1, 0) ∷ (3, 0) ∷ (5, 0) ∷ [],
         both_at 1 0 2 ∷ both_at 4294967296 1 4 ∷ both_at max_moment 2 6 ∷ []))
     -- second begins at the done step
-    ∷ (two and_then (leaf (recurs 2)) (leaf (recurs 1)),
-        (four_fives,
+    ∷ (two and_then (leaf (recurs 2)) (leaf (recurs 1)), (four_fives,
         answer (left (number 0)) (Next 1) ∷ answer (left (number 1)) (Next 2)
         ∷ answer (right (number 0)) (Next 3) ∷ answer (right (number 1)) Stop ∷ []))
     -- second begins at once
     ∷ (two and_then (leaf (recurs 0)) (leaf (recurs 1)),
         (two_steps, answer (right (number 0)) (Next 1) ∷ answer (right (number 1)) Stop ∷ []))
     -- the done step is not collected
-    ∷ (collected_schedule,
-        ((1, 1) ∷ (2, 2) ∷ (3, 3) ∷ [],
+    ∷ (collected_schedule, ((1, 1) ∷ (2, 2) ∷ (3, 3) ∷ [],
         answer (listed none) (Next 1) ∷ answer (listed (more (number 1) none)) (Next 2)
         ∷ answer (listed (more (number 1) (more (number 2) none))) Stop ∷ []))
     -- a step after a done one is collected
@@ -165,8 +160,7 @@ answered =
         ∷ answer (listed (more (number 0) none)) (Next 3)
         ∷ answer (listed (more (number 0) (more (number 0) none))) (Next 4) ∷ []))
     -- size of a list is tested
-    ∷ (over (over (leaf forever) collect_all) (while_output SizeOf (lt 1)),
-        (two_steps,
+    ∷ (over (over (leaf forever) collect_all) (while_output SizeOf (lt 1)), (two_steps,
         answer (listed none) (Next 1) ∷ answer (listed (more (number 0) none)) Stop ∷ []))
     -- parts of a pair are tested
     ∷ (over (two both (leaf elapsed) (leaf identity)) (while_output SecondPart (eq 0)),
