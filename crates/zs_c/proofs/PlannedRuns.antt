@@ -17,7 +17,7 @@ use Rattle.zs_bounds.specs.Driven.{IsStep, IsAttempt, IsWait, LetsEndAt, IsDrive
 use Rattle.zs_bounds.specs.Bounds.{Promises}
 use Rattle.zs_c.specs.declared.turn.Turn.{Turn}
 use Rattle.zs_c.specs.Plan.{end_of, moment_of, asked_of, begin_of, plan_of, plan_number, plan_begin, plan_after, step_of, IsFair}
-use Rattle.zs_c.specs.Planned.{IsCounted, Allows, KeepsTo, punctual, LetsBeginAt, IsPlanned, StaysWithin}
+use Rattle.zs_c.specs.Planned.{IsCounted, Allows, FollowsDriver, punctual, LetsBeginAt, IsPlanned, StaysWithin}
 use Rattle.zs_c.proofs.Planning.{fair-begin}
 use Rattle.zs_c.proofs.Running.{at-most}
 
@@ -140,7 +140,7 @@ lets-timed d now x planned begun m k short limit lets low high after within smal
 -- the same, of a turn
 lets-turn : (o : Option ℕ) (d : Driver) (p : ℕ × ℕ) (h : History) (x planned : ℕ) (turn : Turn)
     → d.most ≡ o → d.least ≤ 1
-    → planned ≤ 18446744073709551615 → IsCounted turn → KeepsTo d (p ∷ h) planned turn
+    → planned ≤ 18446744073709551615 → IsCounted turn → FollowsDriver d (p ∷ h) planned turn
     → LetsBeginAt d.waits p.0 (Next x) (planned / 1000000)
     → LetsEndAt d p.0 (Next x) (moment_of (planned / 1000000) turn)
 lets-turn None d p h x planned turn is short counted fits keeps lets =
@@ -171,7 +171,7 @@ lets-turn (Some k) d p h x planned turn is short counted fits keeps lets =
 -- the same, of any decision
 lets-decided : (d : Driver) (p : ℕ × ℕ) (h : History) (e : Decision) (planned : ℕ) (turn : Turn)
     → d.least ≤ 1
-    → planned ≤ 18446744073709551615 → IsCounted turn → KeepsTo d (p ∷ h) planned turn
+    → planned ≤ 18446744073709551615 → IsCounted turn → FollowsDriver d (p ∷ h) planned turn
     → LetsBeginAt d.waits p.0 e (planned / 1000000)
     → LetsEndAt d p.0 e (moment_of (planned / 1000000) turn)
 lets-decided d p h Stop planned turn short counted fits keeps lets = absurd lets
@@ -189,7 +189,7 @@ turn-step planned turn counted fits =
 -- the driver can make the history after a turn
 pub turn-driven : (t : Schedule) (d : Driver) (h : History) (planned : ℕ) (turn : Turn)
     → d.least ≤ 1 → IsCounted turn
-    → IsPlanned t d h planned → KeepsTo d h planned turn
+    → IsPlanned t d h planned → FollowsDriver d h planned turn
     → IsDriven t d (step_of (planned / 1000000) turn ∷ h)
 turn-driven t d [] planned turn short fits was keeps = turn-step planned turn was.counted fits
 turn-driven t d (p ∷ h) planned turn short fits was keeps = (
@@ -201,7 +201,7 @@ turn-driven t d (p ∷ h) planned turn short fits was keeps = (
 
 -- the first attempt is one of the driver
 first-timed : (o : Option ℕ) (d : Driver) (turn : Turn) → d.most ≡ o → d.least ≤ 1 → IsCounted turn
-    → KeepsTo d [] 0 turn
+    → FollowsDriver d [] 0 turn
     → IsAttempt d 0 (moment_of (0 / 1000000) turn)
 first-timed None d turn is short fits keeps =
     record { least = omega (arith, short); most = λ k e. absurd cc }
@@ -218,18 +218,19 @@ first-timed (Some k) d turn is short fits keeps =
 -- and its first attempt is one of the driver, from 0 on
 pub turn-first : (t : Schedule) (d : Driver) (h : History) (planned : ℕ) (turn : Turn) → d.least ≤ 1
     → IsCounted turn
-    → IsPlanned t d h planned → KeepsTo d h planned turn
+    → IsPlanned t d h planned → FollowsDriver d h planned turn
     → IsAttempt d 0 (first_moment (step_of (planned / 1000000) turn ∷ h))
 turn-first t d [] planned turn short fits was keeps =
     let none : planned ≡ 0 = was.so_far in
     subst (λ n. IsAttempt d 0 (moment_of (n / 1000000) turn)) (sym none)
-    (first-timed d.most d turn refl short fits (subst (λ n. KeepsTo d [] n turn) none keeps))
+    (first-timed d.most d turn refl short fits (subst (λ n. FollowsDriver d [] n turn) none keeps))
 turn-first t d (p ∷ h) planned turn short fits was keeps = was.so_far.1
 
--- an attempt that conforms to its driver ends within the longest run of its bounds
+-- an attempt that follows its driver ends within the longest run of its bounds
 pub turn-ends : (t : Schedule) (d : Driver) (h : History) (planned : ℕ) (turn : Turn) (b : Bounds)
     (r : ℕ) → d.least ≤ 1 → IsCounted turn
-    → IsPlanned t d h planned → KeepsTo d h planned turn → Promises t d b → b.longest_run ≡ Some r
+    → IsPlanned t d h planned → FollowsDriver d h planned turn → Promises t d b
+    → b.longest_run ≡ Some r
     → end_of turn / 1000000 ≤ r
 turn-ends t d h planned turn b r short fits was keeps holds is =
     let driven = turn-driven t d h planned turn short fits was keeps in
@@ -262,7 +263,7 @@ none-some n o none some = cc
 -- the next attempt of a plan
 planned-next : (t : Schedule) (d : Driver) (h : History) (planned : ℕ) (turn : Turn) (begin : ℕ)
     (e : Decision) → Allows d turn
-    → IsCounted turn → IsPlanned t d h planned → KeepsTo d h planned turn
+    → IsCounted turn → IsPlanned t d h planned → FollowsDriver d h planned turn
     → (answer_of t (step_of (planned / 1000000) turn ∷ h)).decision ≡ e
     → plan_of turn (moment_of (planned / 1000000) turn) e ≡ Some begin
     → IsPlanned t d (step_of (planned / 1000000) turn ∷ h) begin
@@ -305,7 +306,7 @@ one-more t d h planned turn (Some begin) b k holds is driven plans =
 -- the next attempt, if there is one
 planned-on : (t : Schedule) (d : Driver) (h : History) (planned : ℕ) (turn : Turn)
     (number begin : ℕ) (o : Option ℕ) → Allows d turn
-    → IsCounted turn → IsPlanned t d h planned → KeepsTo d h planned turn
+    → IsCounted turn → IsPlanned t d h planned → FollowsDriver d h planned turn
     → plan_after t h (planned / 1000000) turn ≡ o → number ≡ plan_number o → begin ≡ plan_begin o
     → number ≡ 0
     → IsPlanned t d (step_of (planned / 1000000) turn ∷ h) begin
@@ -320,7 +321,7 @@ planned-on t d h planned turn number begin (Some n) allows fits was keeps plans 
 -- the headline
 pub stays-within : (t : Schedule) (d : Driver) (h : History) (planned : ℕ) (turn : Turn)
     (number begin : ℕ) (o : Option ℕ) → Allows d turn
-    → IsCounted turn → IsPlanned t d h planned → KeepsTo d h planned turn
+    → IsCounted turn → IsPlanned t d h planned → FollowsDriver d h planned turn
     → plan_after t h (planned / 1000000) turn ≡ o → number ≡ plan_number o → begin ≡ plan_begin o
     → StaysWithin t d (step_of (planned / 1000000) turn ∷ h) turn number begin
 stays-within t d h planned turn number begin o allows fits was keeps plans numbered begins =

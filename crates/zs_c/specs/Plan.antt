@@ -36,7 +36,7 @@ share_of turn = min turn.percent 100 * turn.draw / 100
 abbrev pub rest_of : Turn → ℕ → ℕ
 rest_of turn wait = wait - wait * share_of turn / 4294967296
 
--- the least wait that counts: what the service requested, and no more than the longest
+-- the least wait that counts: it is cut at the longest
 abbrev pub asked_of : Turn → ℕ
 asked_of turn = min turn.least turn.longest
 
@@ -95,7 +95,7 @@ pub record IsFair (turn : Turn) (moment next begin : ℕ) : Type 0 where
   pub exact : turn.percent ≡ 0 → nanos next ≤ begin
   -- with jitter, at least 100 - percent of the schedule's wait pass from the moment of the step on
   pub least : nanos moment * 100 + nanos (next - moment) * (100 - turn.percent) ≤ begin * 100
-  -- not after the schedule's next moment, or the earliest begin, unless a least wait requires it
+  -- not after the schedule's next moment, or the earliest begin, unless a least wait is longer
   pub most : begin ≤ max (max (nanos next) (earliest_of turn moment))
       (end_of turn + nanos (asked_of turn))
 

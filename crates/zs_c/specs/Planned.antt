@@ -44,10 +44,10 @@ pub record IsInTime (v : Waits) (h : History) (planned : ℕ) (turn : Turn) (k :
   pub ends : turn.ended ≤ turn.began + nanos k
   pub some : 0 < k
 
--- An attempt conforms to a driver. If the driver limits no duration, each attempt does, whatever
--- the clock does: it may fall or jump, and the attempt may begin and end at any moment.
-abbrev pub KeepsTo : Driver → History → ℕ → Turn → Type 0
-KeepsTo d h planned turn = (k : ℕ) → d.most ≡ Some k → IsInTime d.waits h planned turn k
+-- An attempt follows a driver. If the driver limits no duration, each attempt does, whatever the
+-- clock does: it may fall or jump, and the attempt may begin and end at any moment.
+abbrev pub FollowsDriver : Driver → History → ℕ → Turn → Type 0
+FollowsDriver d h planned turn = (k : ℕ) → d.most ≡ Some k → IsInTime d.waits h planned turn k
 
 -- waits that are never late
 abbrev pub punctual : Waits → Waits
@@ -88,10 +88,10 @@ pub record StaysWithin (t : Schedule) (d : Driver) (h : History) (turn : Turn) (
       → end_of turn / 1000000 ≤ r
 
 -- This holds for every schedule, driver and history whose state the words were before the turn, if
--- the attempt was planned, the driver allows the turn, and the attempt conforms to the driver.
+-- the attempt was planned, the driver allows the turn, and the attempt follows the driver.
 abbrev pub KeepsBounds : List ℕ → List ℕ → Turn → ℕ → ℕ → Type 0
 KeepsBounds program state turn number begin =
     (t : Schedule) (d : Driver) (h : History) (planned : ℕ) → IsProgram program t
     → KeepsProgramState t h (planned / 1000000) state → IsPlanned t d h planned → Allows d turn
-    → KeepsTo d h planned turn
+    → FollowsDriver d h planned turn
     → StaysWithin t d (step_of (planned / 1000000) turn ∷ h) turn number begin

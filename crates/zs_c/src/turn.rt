@@ -15,7 +15,7 @@ pub struct Turn {
     pub ended: u64,
     /// The input of the schedule's step: under retry the error's code.
     pub input: u64,
-    /// The least wait that the service requested, in milliseconds, or 0.
+    /// The least wait that the service wants, in milliseconds, or 0.
     pub least: u64,
     /// The longest least wait that counts, in milliseconds.
     pub longest: u64,

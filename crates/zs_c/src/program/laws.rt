@@ -8,7 +8,7 @@ ghost use Rattle.zs_bounds.specs.declared.driver.Driver.{Driver};
 ghost use Rattle.zs_bounds.specs.declared.told.Bounds.{Bounds};
 ghost use Rattle.zs_c.specs.declared.turn.Turn.{Turn};
 ghost use Rattle.zs_c.specs.Plan.{end_of};
-ghost use Rattle.zs_c.specs.Planned.{IsCounted, IsPlanned, KeepsTo};
+ghost use Rattle.zs_c.specs.Planned.{IsCounted, IsPlanned, FollowsDriver};
 ghost use Rattle.zs_c.specs.Program.{IsProgram};
 
 /// Words are the program of at most one schedule.
@@ -17,11 +17,12 @@ pub fn one_schedule()
         → t ≡ u }
 {}
 
-/// An attempt that was planned, and conforms to its driver, ends within the longest run of the
-/// bounds of that driver, whether it succeeds or fails. Times are counted from the begin of the
-/// first attempt.
+/// An attempt that was planned, and follows its driver, ends within the longest run of the bounds
+/// of that driver, whether it succeeds or fails. Times are counted from the begin of the first
+/// attempt.
 pub fn attempts_end_in_time()
     ensures law { (t : Schedule) (d : Driver) (h : History) (planned : ℕ) (turn : Turn) (b : Bounds)
-        (r : ℕ) → d.least ≤ 1 → IsCounted turn → IsPlanned t d h planned → KeepsTo d h planned turn
-        → Promises t d b → b.longest_run ≡ Some r → end_of turn / 1000000 ≤ r }
+        (r : ℕ) → d.least ≤ 1 → IsCounted turn → IsPlanned t d h planned
+        → FollowsDriver d h planned turn → Promises t d b → b.longest_run ≡ Some r
+        → end_of turn / 1000000 ≤ r }
 {}

@@ -10,7 +10,11 @@ returns-clause-ok c =
     let t = schedule_of c.in_ok-checked.checked in
     record {
       term = t;
-      spelled = record { spelled = c.in_ok-checked.ensures.ok; flat = c.in_ok-program.ensures.flat };
-      sized = c.len.ensures ∙ c.in_ok-program.program.ok.0 ∙ ap length c.in_ok-program.ensures.program;
+      spelled = record {
+        spelled = c.in_ok-checked.ensures.ok;
+        flat = c.in_ok-program.ensures.flat;
+      };
+      sized = c.len.ensures ∙ c.in_ok-program.program.ok.0 ∙ ap length
+          c.in_ok-program.ensures.program;
       state_sized = λ h planned. omega (arith, c.in_ok-program.ensures.state, held-length t [] h);
     }
