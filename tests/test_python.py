@@ -127,7 +127,7 @@ def seen_of(schedule):
     return schedule.seen if hasattr(schedule, "seen") else schedule.state[1:]
 
 
-@pytest.mark.parametrize("kind, first, second", [("Schedule", [], [(5, 7)]), ("Stepper", [0, 0, 0], [5, 0, 1])])
+@pytest.mark.parametrize("kind, first, second", [("Schedule", [], [(5, 7)]), ("Stepper", [0, 0, 0, 0], [5, 0, 0, 1])])
 def test_a_step_that_is_refused_leaves_the_schedule(zsched, kind, first, second):
     made = getattr(zsched, kind)("recurs(1)")
     assert seen_of(made) == first
@@ -141,7 +141,7 @@ def test_a_step_that_is_refused_leaves_the_schedule(zsched, kind, first, second)
 
 
 @pytest.mark.parametrize("kind, wanted, wrong", zip(
-    ["Schedule", "Stepper"], [[(1, 2)], [1, 10, 20, 0, 1]], rows("not_saved.jsonl")))
+    ["Schedule", "Stepper"], [[(1, 2)], [1, 0, 10, 20, 0, 1]], rows("not_saved.jsonl")))
 def test_what_is_saved_goes_on(zsched, kind, wanted, wrong):
     made = getattr(zsched, kind)(POLICY)
     made.after(1, 2)
