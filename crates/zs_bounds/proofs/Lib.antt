@@ -14,5 +14,4 @@ pub mod ScheduleWaits
 pub mod Rows
 pub mod Powers
 pub mod Loops
-pub mod Fresh
-pub mod Reading
+pub mod Turning

@@ -14,6 +14,5 @@ pub mod OutRange
 pub mod Leaf
 pub mod Node
 pub mod Steps
-pub mod Reads
 pub mod Place
 pub mod Sizes

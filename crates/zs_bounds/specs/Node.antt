@@ -1,14 +1,11 @@
 -- The schedule that a node was made of, the range of states that it has, and what it knows of first
 -- steps.
-use Rattle.std.specs.Prelude.{◌≡◌, Bool, true, false, ◌||◌, if◌then◌else◌}
+use Rattle.std.specs.Prelude.{◌≡◌, Bool, true, false, if◌then◌else◌}
 use Rattle.zs_term.specs.Schedule.{Schedule, leaf, two, over, both, either, and_then, while_input}
 use Rattle.zs_term.specs.Schedule.{while_output, collect_all, mapped, reset_when}
 use Rattle.zs_bounds.specs.declared.decisions.Decisions.{Decisions}
 use Rattle.zs_bounds.specs.declared.span.Span.{Span}
-use Rattle.zs_bounds.specs.declared.turns.Fresh.{Fresh}
-use Rattle.zs_bounds.specs.declared.turns.Fresh.TheVariants.{Nothing, Beside, Alone}
-use Rattle.zs_bounds.specs.declared.turns.Turn.{Turn}
-use Rattle.zs_bounds.specs.declared.turns.Turns.{Turns}
+use Rattle.zs_bounds.specs.declared.node.Turns.{Turns}
 use Rattle.zs_bounds.specs.declared.node.Node.{Node}
 use Rattle.zs_bounds.specs.declared.ranges.OutRange.{OutRange}
 use Rattle.zs_bounds.specs.declared.node.Node.TheVariants.{Leaf, Both', Either', AndThen'}
@@ -16,8 +13,9 @@ use Rattle.zs_bounds.specs.declared.node.Node.TheVariants.{WhileInput', WhileOut
 use Rattle.zs_bounds.specs.declared.node.Node.TheVariants.{Map', ResetWhen'}
 use Rattle.zs_bounds.specs.Leaf.{bare_leaf}
 use Rattle.zs_bounds.specs.Span.{hull}
-use Rattle.zs_bounds.specs.AnswerRange.{AnswerRange, range}
-use Rattle.zs_bounds.specs.OutRange.{output_range_of}
+use Rattle.zs_bounds.specs.AnswerRange.{AnswerRange, result_hull, results_if, left_range}
+use Rattle.zs_bounds.specs.AnswerRange.{right_range}
+use Rattle.zs_bounds.specs.OutRange.{result_range}
 use Rattle.zs_bounds.specs.StateRange.{StateRange, counts, parts, turns, items, first_range}
 use Rattle.zs_bounds.specs.StateRange.{first_state, with_first, begun, next_range, next_state}
 
@@ -31,65 +29,24 @@ node_schedule (WhileInput' p s t) = over (node_schedule s) (while_input t)
 node_schedule (WhileOutput' p s k t) = over (node_schedule s) (while_output k t)
 node_schedule (CollectAll' p s d n) = over (node_schedule s) collect_all
 node_schedule (Map' p s f) = over (node_schedule s) (mapped f)
-node_schedule (ResetWhen' p s k d r) = over (node_schedule s) (reset_when k.pick k.test)
+node_schedule (ResetWhen' p s k t r) = over (node_schedule s) (reset_when k t)
 
--- ---- what the states of a part still lack
-
--- the states with what they lack
-abbrev pub fresh_state : Fresh → Schedule → StateRange → StateRange
-fresh_state Nothing s c = c
-fresh_state Beside s c = with_first s c
-fresh_state Alone s c = first_state s
-
--- what they lack if the part may also begin, and may have been on
-abbrev pub fresh_added : Bool → Bool → Fresh → Fresh
-fresh_added false on f = f
-fresh_added true false f = Alone
-fresh_added true true Nothing = Beside
-fresh_added true true Beside = Beside
-fresh_added true true Alone = Alone
-
--- a turn of its parts
-abbrev pub turn_of : Bool → Decisions → Fresh → Turn
-turn_of on d f = record { is_on = on; begins = d; fresh = f }
-
--- a turn whose part may also be at its first step, if it may begin
-abbrev pub turn_added : Bool → Turn → Turn
-turn_added begins t = turn_of (t.is_on || begins) t.begins (fresh_added begins t.is_on t.fresh)
-
--- the same for both parts in turn, of which one has to begin
-abbrev pub turn_refreshed : Fresh → Bool → Turn → Turn
-turn_refreshed Nothing begins t = t
-turn_refreshed Beside begins t = turn_added begins t
-turn_refreshed Alone begins t = turn_of begins t.begins Alone
-
--- a span of numbers, with the first one as the states lack it
-abbrev pub fresh_span : Fresh → Span → Span → Span
-fresh_span Nothing s first = s
-fresh_span Beside s first = hull s first
-fresh_span Alone s first = first
+-- a span of numbers with the first one, or that alone if they are not on
+abbrev pub begun_span : Bool → Span → Span → Span
+begun_span true s first = hull s first
+begun_span false s first = first
 
 -- the range of states that a node has
 abbrev pub node_state : Node → StateRange
 node_state (Leaf l n t) = counts n t
 node_state (Both' p a q b) = parts (node_state a) (node_state b)
 node_state (Either' p a q b) = parts (node_state a) (node_state b)
-node_state (AndThen' t p a q b) =
-    turns t.first.is_on t.second.is_on (fresh_state t.first.fresh (node_schedule a) (node_state a))
-    (fresh_state t.second.fresh (node_schedule b) (node_state b))
+node_state (AndThen' t p a q b) = turns t.first_on t.second_on (node_state a) (node_state b)
 node_state (WhileInput' p s t) = node_state s
 node_state (WhileOutput' p s k t) = node_state s
 node_state (CollectAll' p s d n) = items n (node_state s)
 node_state (Map' p s f) = node_state s
-node_state (ResetWhen' p s k d r) = node_state s
-
--- the states of a part whose turn it may be
-abbrev pub part_state : Turn → Node → StateRange
-part_state t a = fresh_state t.fresh (node_schedule a) (node_state a)
-
--- the states of two parts in turn
-abbrev pub turn_states : Turn → Turn → Node → Node → StateRange
-turn_states t u a b = turns t.is_on u.is_on (part_state t a) (part_state u b)
+node_state (ResetWhen' p s k t r) = node_state s
 
 -- ---- the next step, by the times up to it: what it may return, and the states after it
 
@@ -106,24 +63,26 @@ node_begun begins on n =
     begun begins on (with_first (node_schedule n) (node_state n)) (first_state (node_schedule n))
     (node_state n)
 
--- of a part whose turn it may be
-abbrev pub part_range : Turn → Node → Span → AnswerRange
-part_range t n d = next_range (node_schedule n) (part_state t n) d
-
-abbrev pub part_next : Turn → Node → Span → StateRange
-part_next t n d =
-    if t.is_on then next_state (node_schedule n) (part_state t n) d else part_state t n
+-- the states of a part after the step, if a fact holds
+abbrev pub state_if : Bool → Node → Span → StateRange
+state_if holds n d = if holds then node_next n d else node_state n
 
 -- of two parts in turn
 abbrev pub turns_range : Turns → Node → Node → Span → AnswerRange
 turns_range t a b d =
-    next_range (two and_then (node_schedule a) (node_schedule b)) (turn_states t.first t.second a b)
-    d
+    next_range (two and_then (node_schedule a) (node_schedule b))
+    (turns t.first_on t.second_on (node_state a) (node_state b)) d
 
 abbrev pub turns_next : Turns → Node → Node → Span → StateRange
 turns_next t a b d =
-    next_state (two and_then (node_schedule a) (node_schedule b)) (turn_states t.first t.second a b)
-    d
+    next_state (two and_then (node_schedule a) (node_schedule b))
+    (turns t.first_on t.second_on (node_state a) (node_state b)) d
+
+-- as they are joined, by whether the second may have been on
+abbrev pub turns_joined : Bool → AnswerRange → AnswerRange → AnswerRange → AnswerRange
+turns_joined second_on a b begins =
+    result_hull (result_hull (left_range a) (results_if second_on (right_range b)))
+    (results_if a.decision.stops (right_range begins))
 
 -- ---- what first steps may return: of both parts in turn, of a part that is collected, and of a
 -- ---- part that may be reset
@@ -142,13 +101,12 @@ node_firsts (Leaf l n t) = no_firsts
 node_firsts (Both' p a q b) = part_firsts (node_firsts a) (node_firsts b)
 node_firsts (Either' p a q b) = part_firsts (node_firsts a) (node_firsts b)
 node_firsts (AndThen' t p a q b) =
-    turn_firsts t.first.begins (range (output_range_of t.start) t.second.begins) (node_firsts a)
-    (node_firsts b)
+    turn_firsts t.begins (result_range t.start) (node_firsts a) (node_firsts b)
 node_firsts (WhileInput' p s t) = node_firsts s
 node_firsts (WhileOutput' p s k t) = node_firsts s
 node_firsts (CollectAll' p s d n) = item_firsts d (node_firsts s)
 node_firsts (Map' p s f) = node_firsts s
-node_firsts (ResetWhen' p s k d r) = reset_firsts (range (output_range_of r) d) (node_firsts s)
+node_firsts (ResetWhen' p s k t r) = reset_firsts (result_range r) (node_firsts s)
 
 -- as they are
 abbrev pub firsts_of : Schedule → Firsts
@@ -167,13 +125,10 @@ firsts_of (over s (reset_when k t)) = reset_firsts (first_range s) (firsts_of s)
 abbrev pub KnowsFirsts : Node → Type 0
 KnowsFirsts n = node_firsts n ≡ firsts_of (node_schedule n)
 
--- what is stored of a part's first step is right
-abbrev pub KnowsFirst : OutRange → Decisions → Node → Type 0
-KnowsFirst out d n = range (output_range_of out) d ≡ first_range (node_schedule n)
-
 -- two parts in turn have their first steps right, as does what is stored of the second's
 abbrev pub KnowsTurns : Turns → Node → Node → Type 0
-KnowsTurns t a b = KnowsFirsts a × KnowsFirsts b × KnowsFirst t.start t.second.begins b
+KnowsTurns t a b =
+    KnowsFirsts a × KnowsFirsts b × (result_range t.start ≡ first_range (node_schedule b))
 
 -- two nodes in turn
 abbrev pub in_turn : Node → Node → Schedule
@@ -184,7 +139,7 @@ pub record IsMade (s : Schedule) (n : Node) (r : OutRange × Decisions) : Type 0
   pub schedule : node_schedule n ≡ s
   pub firsts : KnowsFirsts n
   pub state : node_state n ≡ first_state s
-  pub first : KnowsFirst r.0 r.1 n
+  pub first : result_range r ≡ first_range (node_schedule n)
 
 -- and that of the schedule that it was made of
 abbrev pub IsMadeNode : Node → OutRange × Decisions → Type 0
@@ -198,6 +153,4 @@ SameNode n m = (node_schedule m ≡ node_schedule n) × (node_firsts m ≡ node_
 
 -- what two parts in turn know of first steps
 abbrev pub SameTurns : Turns → Turns → Type 0
-SameTurns t u =
-    (u.first.begins ≡ t.first.begins) × (u.second.begins ≡ t.second.begins)
-    × (output_range_of u.start ≡ output_range_of t.start)
+SameTurns t u = (u.begins ≡ t.begins) × (result_range u.start ≡ result_range t.start)

@@ -12,8 +12,6 @@ use crate::decisions::Decisions;
 use crate::driver::Driver;
 use crate::latest::{latest_step, wait_limit};
 use crate::node::{Node, node_of};
-use crate::ranges::OutRange;
-use crate::reads::Reads;
 use crate::span::MAX_TICK;
 use crate::stepping::{Next, step};
 use crate::told::Bounds;
@@ -62,7 +60,6 @@ fn bounds_from(
     let mut decision = first;
     let mut passed = 0u64;
     let mut told = Bounds::nothing(driver);
-    let mut out = OutRange::Nothing;
     for _ in 0..steps {
         let real = driver.real(decision);
         told = told.with_step(limit, driver, real);
@@ -74,8 +71,8 @@ fn bounds_from(
         if passed > MAX_TICK {
             return Ok(told);
         }
-        let next = Next { alloc, later };
-        decision = step(next, &Reads::Nothing, node, &mut out)?;
+        let answer = step(Next { alloc, later }, node)?;
+        decision = answer.1;
     }
     Ok(told.without_end(limit, longest, driver))
 }

@@ -1,8 +1,7 @@
 //! What a step may decide, how the operators join it, and whether a test may pass.
 
 ghost use Rattle.std.specs.Prelude.{◌≡◌, false};
-ghost use Rattle.zs_bounds.specs.AnswerRange.{range, reset_range};
-ghost use Rattle.zs_bounds.specs.OutputRange.{nothing, may_compare, may_fail, may_pass, opposite};
+ghost use Rattle.zs_bounds.specs.OutputRange.{may_compare, may_fail, may_pass, opposite};
 ghost use Rattle.zs_bounds.specs.StateRange.{more_items};
 ghost use Rattle.zs_bounds.specs.DecisionRange.{may_go_on, wait_hull, later_waits, earlier_waits, waits_if, decisions, decision_hull, both_decide, either_decides, test_decides, no_decision};
 
@@ -79,17 +78,6 @@ impl Decisions {
     {
         let waits = waits_if(may_pass(test, span), self.waits);
         Decisions::new(self.stops || may_fail(test, span), waits)
-    }
-
-    // Those of a part, or of its first step, if it may be reset.
-    pub(crate) fn reset(self, passes: bool, fails: bool, first: Decisions) -> Decisions
-        ensures value { result
-            ≡ (reset_range passes fails (range nothing self) (range nothing first)).decision }
-    {
-        if !passes {
-            return self;
-        }
-        if fails { self.hull(first) } else { first }
     }
 }
 

@@ -9,12 +9,10 @@ ghost use Rattle.zs_bounds.specs.AnswerRange.{leaf_range, waits, period_waits, a
 ghost use Rattle.zs_bounds.specs.OutRange.{result_range};
 ghost use Rattle.zs_bounds.specs.Leaf.{bare_leaf};
 
+use crate::answers::AnswerRange;
 use crate::decisions::Decisions;
 use crate::ranges::OutRange;
 use crate::span::{Span, UNCUT_WAIT};
-
-// What a step may return: a range of outputs, and decisions.
-pub(crate) type AnswerRange = (OutRange, Decisions);
 
 // A schedule without parts.
 #[derive(Clone, Copy)]

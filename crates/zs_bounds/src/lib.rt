@@ -14,22 +14,20 @@
 //! ```
 #![tactic(auto)]
 
+mod answers;
+mod beginning;
 mod bounding;
 mod decisions;
 mod driver;
 mod endless;
-mod joins;
 mod latest;
 mod laws;
 mod leaves;
 mod node;
 mod ranges;
-mod reads;
-mod refreshing;
 mod span;
 mod stepping;
 mod told;
-mod turns;
 mod waits;
 
 pub use bounding::bounds;

@@ -2,18 +2,15 @@
 
 ghost use Rattle.std.specs.Prelude.{◌≡◌, IfOk};
 ghost use Rattle.zs_term.specs.Schedule.{schedule_of, leaf, over, collect_all, reset_when};
-ghost use Rattle.zs_bounds.specs.AnswerRange.{result_hull, no_result, left_range, right_range, test_range};
-ghost use Rattle.zs_bounds.specs.OutRange.{result_range};
 ghost use Rattle.zs_bounds.specs.StateRange.{first_state};
 ghost use Rattle.zs_bounds.specs.Leaf.{bare_leaf};
 ghost use Rattle.zs_bounds.specs.Node.{node_schedule, in_turn, IsMade, IsMadeNode};
 
+use crate::answers::{AnswerRange, copy_if, left_range, result_hull, right_range, test_range};
 use crate::decisions::{Decisions, more_items};
-use crate::leaves::{AnswerRange, Leaf, leaf_range};
-use crate::ranges::{OutRange, func_range, join, make_pairs, make_sides, picked_span};
-use crate::reads::{Reads, copy_read};
+use crate::leaves::{Leaf, leaf_range};
+use crate::ranges::{OutRange, func_range, make_pairs, picked_span};
 use crate::span::{Span, any_input};
-use crate::turns::{ResetRule, Turn, Turns};
 use std::alloc::{AllocError, Global};
 use zs_term::{Func, Pick, Term, Test};
 
@@ -30,8 +27,18 @@ pub(crate) enum Node {
     // What the part's first step may decide, and the number of items so far.
     CollectAll(Box<Node>, Decisions, Span),
     Map(Box<Node>, Func),
-    // The part's first step: what it may decide, and return as its output.
-    ResetWhen(Box<Node>, ResetRule, Decisions, OutRange),
+    // What the part's first step may return.
+    ResetWhen(Box<Node>, Pick, Test, AnswerRange),
+}
+
+// Two parts in turn: whether each may be on, what the first's first step may decide, and what the
+// second's may return.
+#[derive(Drop)]
+pub(crate) struct Turns {
+    pub(crate) first_on: bool,
+    pub(crate) second_on: bool,
+    pub(crate) begins: Decisions,
+    pub(crate) start: AnswerRange,
 }
 
 // A node after its first step, and what that step may return.
@@ -106,53 +113,6 @@ fn part(alloc: Global, term: &Term) -> Result<MadePart, AllocError>
     Ok((Box::new(alloc, node)?, answer))
 }
 
-// No result.
-fn no_result() -> AnswerRange
-    ensures value { result_range result ≡ no_result }
-{
-    (OutRange::Nothing, Decisions::nothing())
-}
-
-// The results of one or the other.
-fn result_hull(first: AnswerRange, second: AnswerRange) -> AnswerRange
-    ensures value { result_range result ≡ result_hull (result_range first) (result_range second) }
-{
-    let (mut x, d) = first;
-    let (y, e) = second;
-    join(&mut x, y);
-    (x, d.hull(e))
-}
-
-// The results of a first part that goes on.
-fn left_range(alloc: Global, answer: AnswerRange) -> Result<AnswerRange, AllocError>
-    ensures value { IfOk result (λ r. result_range r ≡ left_range (result_range answer)) }
-{
-    let (out, decision) = answer;
-    if !decision.may_go_on() {
-        return Ok(no_result());
-    }
-    Ok((
-        make_sides(alloc, out, OutRange::Nothing)?,
-        Decisions::always(decision.waits),
-    ))
-}
-
-// The results of a second part.
-fn right_range(alloc: Global, answer: AnswerRange) -> Result<AnswerRange, AllocError>
-    ensures value { IfOk result (λ r. result_range r ≡ right_range (result_range answer)) }
-{
-    let (out, decision) = answer;
-    Ok((make_sides(alloc, OutRange::Nothing, out)?, decision))
-}
-
-// The results under a test of a number of a span, if there is one.
-fn test_range(test: Test, span: Option<Span>, answer: AnswerRange) -> AnswerRange
-    ensures value { result_range result ≡ test_range test span (result_range answer) }
-{
-    let (out, decision) = answer;
-    (out, decision.under(test, span))
-}
-
 // Two parts in turn.
 fn in_turn(alloc: Global, first: MadePart, second: MadePart) -> Result<Made, AllocError>
     requires first { IsMadeNode first.0.value first.1 }
@@ -160,19 +120,16 @@ fn in_turn(alloc: Global, first: MadePart, second: MadePart) -> Result<Made, All
     ensures made { IfOk result (λ r.
         IsMade (in_turn first.0.value second.0.value) r.0 r.1) }
 {
-    let ((first, x), (second, (start, begins))) = (first, second);
-    let decision = x.1;
+    let ((first, x), (second, start)) = (first, second);
+    let begins = x.1;
     let left = left_range(alloc, x)?;
-    let right = if decision.stops {
-        right_range(alloc, (copy_read(alloc, &Reads::Whole, &start)?, begins))?
-    } else {
-        no_result()
-    };
+    let new = copy_if(alloc, true, &start)?;
+    let right = right_range(alloc, begins.stops, new)?;
     let turns = Turns {
-        first: Turn::first(decision.may_go_on(), decision),
-        second: Turn::first(decision.stops, begins),
+        first_on: begins.may_go_on(),
+        second_on: begins.stops,
+        begins,
         start,
-        made: OutRange::Nothing,
     };
     Ok((
         Node::AndThen(turns, first, second),
@@ -200,8 +157,7 @@ fn reset_node(alloc: Global, made: MadePart, pick: Pick, test: Test) -> Result<M
     ensures made { IfOk result (λ r.
         IsMade (over (node_schedule made.0.value) (reset_when pick test)) r.0 r.1) }
 {
-    let (part, (start, begins)) = made;
-    let out = copy_read(alloc, &Reads::Whole, &start)?;
-    let rule = ResetRule { pick, test };
-    Ok((Node::ResetWhen(part, rule, begins, start), (out, begins)))
+    let (part, start) = made;
+    let answer = copy_if(alloc, true, &start)?;
+    Ok((Node::ResetWhen(part, pick, test, start), answer))
 }

@@ -46,6 +46,21 @@ pub(crate) fn make_sides(
     Ok(OutRange::Sides(Box::new(alloc, left)?, Box::new(alloc, right)?))
 }
 
+// A copy of a range.
+#[cycle(copying)]
+pub(crate) fn copy_range(alloc: Global, range: &OutRange) -> Result<OutRange, AllocError>
+    ensures value { IfOk result (λ r. output_range_of r ≡ output_range_of range.now) }
+{
+    match range {
+        OutRange::Nothing => Ok(OutRange::Nothing),
+        OutRange::Numbers(s) => Ok(OutRange::Numbers(*s)),
+        OutRange::Pairs(a, b) => make_pairs(alloc, copy_range(alloc, a)?, copy_range(alloc, b)?),
+        OutRange::Sides(a, b) => make_sides(alloc, copy_range(alloc, a)?, copy_range(alloc, b)?),
+        OutRange::Lists(s) => Ok(OutRange::Lists(*s)),
+        OutRange::Anything => Ok(OutRange::Anything),
+    }
+}
+
 // A range around a span of numbers and another range.
 fn numbers_hull(span: Span, second: OutRange) -> OutRange
     ensures value { output_range_of result ≡ output_hull (numbers span) (output_range_of second) }
@@ -73,7 +88,7 @@ fn lists_hull(span: Span, second: OutRange) -> OutRange
 
 // Widens a range, so that it is around another one too.
 #[cycle(joining)]
-#[tactic(auto, using(crate::proofs::Reading::hull_nothing))]
+#[tactic(auto, using(crate::proofs::Outputs::hull_nothing))]
 pub(crate) fn join(range: &mut OutRange, other: OutRange)
     ensures value { output_range_of range.new
         ≡ output_hull (output_range_of range.old) (output_range_of other) }

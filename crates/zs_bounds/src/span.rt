@@ -4,6 +4,7 @@ ghost use Rattle.std.specs.Prelude.{◌≡◌};
 ghost use Rattle.zs_bounds.specs.Span.{span, hull};
 ghost use Rattle.zs_bounds.specs.AnswerRange.{any_input, earlier_steps, delays};
 ghost use Rattle.zs_bounds.specs.StateRange.{more_steps, more_time};
+ghost use Rattle.zs_bounds.specs.Node.{begun_span};
 
 // The greatest moment of a clock, in milliseconds: about 31,700 years.
 pub(crate) const MAX_TICK: u64 = 999_999_999_999_999;
@@ -38,6 +39,13 @@ impl Span {
         ensures value { result ≡ hull self other }
     {
         Span::new(self.low.min(other.low), self.high.max(other.high))
+    }
+
+    // The least span around both, or the first number alone if the span is not on.
+    pub(crate) fn begin(self, is_on: bool, first: Span) -> Span
+        ensures value { result ≡ begun_span is_on self first }
+    {
+        if is_on { self.hull(first) } else { first }
     }
 
     // Each number with one less: of steps, the earlier ones.

@@ -1,7 +1,0 @@
-use Rattle.zs_bounds.specs.OutRange.{output_range_of}
-use Rattle.zs_bounds.specs.Sizes.{range_size}
-use Rattle.zs_bounds.proofs.reads.+copying.Given as goal
-
--- a part of a range is smaller
-abbrev pub decreases-copy_read : goal.decreases-copy_read
-decreases-copy_read l = range_size (output_range_of l.range.now)
