@@ -13,6 +13,5 @@ pub mod BoundsOf
 pub mod OutRange
 pub mod Leaf
 pub mod Node
-pub mod Steps
 pub mod Place
 pub mod Sizes

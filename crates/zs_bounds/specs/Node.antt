@@ -1,11 +1,14 @@
--- The schedule that a node was made of, the range of states that it has, and what it knows of first
--- steps.
-use Rattle.std.specs.Prelude.{◌≡◌, Bool, true, false, if◌then◌else◌}
+-- The schedule that a node was made of, the range of states that it has, what it knows of first
+-- steps, and the node after a step. No reader has to believe this file.
+use Rattle.std.specs.Prelude.{◌≡◌, ℕ, Bool, true, false, if◌then◌else◌}
 use Rattle.zs_term.specs.Schedule.{Schedule, leaf, two, over, both, either, and_then, while_input}
 use Rattle.zs_term.specs.Schedule.{while_output, collect_all, mapped, reset_when}
 use Rattle.zs_bounds.specs.declared.decisions.Decisions.{Decisions}
 use Rattle.zs_bounds.specs.declared.span.Span.{Span}
 use Rattle.zs_bounds.specs.declared.node.Turns.{Turns}
+use Rattle.zs_bounds.specs.declared.driver.Driver.{Driver}
+use Rattle.zs_bounds.specs.declared.told.Bounds.{Bounds}
+use Rattle.zs_bounds.specs.BoundsOf.{bounds_from, no_bounds}
 use Rattle.zs_bounds.specs.declared.node.Node.{Node}
 use Rattle.zs_bounds.specs.declared.ranges.OutRange.{OutRange}
 use Rattle.zs_bounds.specs.declared.node.Node.TheVariants.{Leaf, Both', Either', AndThen'}
@@ -154,3 +157,22 @@ SameNode n m = (node_schedule m ≡ node_schedule n) × (node_firsts m ≡ node_
 -- what two parts in turn know of first steps
 abbrev pub SameTurns : Turns → Turns → Type 0
 SameTurns t u = (u.begins ≡ t.begins) × (result_range u.start ≡ result_range t.start)
+
+-- ---- a step, and all steps
+
+-- a node and that node after a step
+pub record Moves (old new : Node) (later : Span) : Type 0 where
+  pub state : node_state new ≡ node_next old later
+  pub same : SameNode old new
+
+-- two parts in turn
+pub record MovesTurns (t u : Turns) (a b x y : Node) (later : Span) : Type 0 where
+  pub state : turns u.first_on u.second_on (node_state b) (node_state y) ≡ turns_next t a x later
+  pub first : SameNode a b
+  pub second : SameNode x y
+  pub begins : SameTurns t u
+
+-- the bounds of a node that has been stepped once, by what that step may decide
+abbrev pub bounds_at : Node → Driver → ℕ → Decisions → Bounds
+bounds_at n d steps first =
+    bounds_from (node_schedule n) d steps (node_state n) first 0 (no_bounds d)

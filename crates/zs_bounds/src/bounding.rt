@@ -5,8 +5,7 @@ ghost use Rattle.zs_term.specs.Schedule.{schedule_of};
 ghost use Rattle.zs_bounds.specs.Bounds.{Promises};
 ghost use Rattle.zs_bounds.specs.BoundsOf.{bounds_of, wait_limit};
 ghost use Rattle.zs_bounds.specs.LatestStep.{latest_step};
-ghost use Rattle.zs_bounds.specs.Node.{KnowsFirsts, node_schedule};
-ghost use Rattle.zs_bounds.specs.Steps.{bounds_at};
+ghost use Rattle.zs_bounds.specs.Node.{KnowsFirsts, bounds_at, node_schedule};
 
 use crate::decisions::Decisions;
 use crate::driver::Driver;

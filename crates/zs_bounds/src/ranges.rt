@@ -68,9 +68,7 @@ fn numbers_hull(span: Span, second: OutRange) -> OutRange
     match second {
         OutRange::Nothing => OutRange::Numbers(span),
         OutRange::Numbers(other) => OutRange::Numbers(span.hull(other)),
-        OutRange::Pairs(_, _) | OutRange::Sides(_, _) | OutRange::Lists(_) | OutRange::Anything => {
-            OutRange::Anything
-        }
+        _ => OutRange::Anything,
     }
 }
 
@@ -81,8 +79,7 @@ fn lists_hull(span: Span, second: OutRange) -> OutRange
     match second {
         OutRange::Nothing => OutRange::Lists(span),
         OutRange::Lists(other) => OutRange::Lists(span.hull(other)),
-        OutRange::Pairs(_, _) | OutRange::Sides(_, _) | OutRange::Numbers(_) | OutRange::Anything =>
-            OutRange::Anything,
+        _ => OutRange::Anything,
     }
 }
 
@@ -103,10 +100,7 @@ pub(crate) fn join(range: &mut OutRange, other: OutRange)
                 join(a, Box::into_inner(c));
                 join(b, Box::into_inner(d));
             }
-            OutRange::Numbers(_)
-            | OutRange::Sides(_, _)
-            | OutRange::Lists(_)
-            | OutRange::Anything => *range = OutRange::Anything,
+            _ => *range = OutRange::Anything,
         },
         OutRange::Sides(a, b) => match other {
             OutRange::Nothing => {}
@@ -114,10 +108,7 @@ pub(crate) fn join(range: &mut OutRange, other: OutRange)
                 join(a, Box::into_inner(c));
                 join(b, Box::into_inner(d));
             }
-            OutRange::Numbers(_)
-            | OutRange::Pairs(_, _)
-            | OutRange::Lists(_)
-            | OutRange::Anything => *range = OutRange::Anything,
+            _ => *range = OutRange::Anything,
         },
         OutRange::Anything => {}
     }
@@ -129,11 +120,7 @@ fn number_span(range: &OutRange) -> Option<Span>
 {
     match range {
         OutRange::Numbers(s) => Some(*s),
-        OutRange::Nothing
-        | OutRange::Pairs(_, _)
-        | OutRange::Sides(_, _)
-        | OutRange::Lists(_)
-        | OutRange::Anything => None,
+        _ => None,
     }
 }
 
@@ -143,11 +130,7 @@ fn size_span(range: &OutRange) -> Option<Span>
 {
     match range {
         OutRange::Lists(s) => Some(*s),
-        OutRange::Nothing
-        | OutRange::Numbers(_)
-        | OutRange::Pairs(_, _)
-        | OutRange::Sides(_, _)
-        | OutRange::Anything => None,
+        _ => None,
     }
 }
 
@@ -159,19 +142,11 @@ pub(crate) fn picked_span(pick: Pick, range: &OutRange) -> Option<Span>
         Pick::Whole => number_span(range),
         Pick::First => match range {
             OutRange::Pairs(a, _) => number_span(a),
-            OutRange::Nothing
-            | OutRange::Numbers(_)
-            | OutRange::Sides(_, _)
-            | OutRange::Lists(_)
-            | OutRange::Anything => number_span(range),
+            _ => number_span(range),
         },
         Pick::Second => match range {
             OutRange::Pairs(_, b) => number_span(b),
-            OutRange::Nothing
-            | OutRange::Numbers(_)
-            | OutRange::Sides(_, _)
-            | OutRange::Lists(_)
-            | OutRange::Anything => number_span(range),
+            _ => number_span(range),
         },
         Pick::Size => size_span(range),
     }
@@ -193,11 +168,7 @@ fn first_of(range: OutRange) -> OutRange
 {
     match range {
         OutRange::Pairs(a, _) => Box::into_inner(a),
-        OutRange::Nothing => OutRange::Nothing,
-        OutRange::Numbers(s) => OutRange::Numbers(s),
-        OutRange::Sides(a, b) => OutRange::Sides(a, b),
-        OutRange::Lists(s) => OutRange::Lists(s),
-        OutRange::Anything => OutRange::Anything,
+        other => other,
     }
 }
 
@@ -207,11 +178,7 @@ fn second_of(range: OutRange) -> OutRange
 {
     match range {
         OutRange::Pairs(_, b) => Box::into_inner(b),
-        OutRange::Nothing => OutRange::Nothing,
-        OutRange::Numbers(s) => OutRange::Numbers(s),
-        OutRange::Sides(a, b) => OutRange::Sides(a, b),
-        OutRange::Lists(s) => OutRange::Lists(s),
-        OutRange::Anything => OutRange::Anything,
+        other => other,
     }
 }
 
@@ -225,11 +192,7 @@ fn merge_range(range: OutRange) -> OutRange
             join(&mut either, Box::into_inner(b));
             either
         }
-        OutRange::Nothing => OutRange::Nothing,
-        OutRange::Numbers(s) => OutRange::Numbers(s),
-        OutRange::Pairs(a, b) => OutRange::Pairs(a, b),
-        OutRange::Lists(s) => OutRange::Lists(s),
-        OutRange::Anything => OutRange::Anything,
+        other => other,
     }
 }
 

@@ -3,8 +3,7 @@
 ghost use Rattle.std.specs.Prelude.{◌≡◌, IfOk, OnOk};
 ghost use Rattle.zs_bounds.specs.AnswerRange.{results_if};
 ghost use Rattle.zs_bounds.specs.OutRange.{result_range};
-ghost use Rattle.zs_bounds.specs.Node.{node_range, node_state, state_if, turns_range, KnowsFirsts, KnowsTurns, SameNode};
-ghost use Rattle.zs_bounds.specs.Steps.{Moves, MovesTurns};
+ghost use Rattle.zs_bounds.specs.Node.{node_range, node_state, state_if, turns_range, KnowsFirsts, KnowsTurns, SameNode, Moves, MovesTurns};
 
 use crate::answers::{AnswerRange, copy_if, no_result, reset_range, test_range, turn_range};
 use crate::beginning::begin;
