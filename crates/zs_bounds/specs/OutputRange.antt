@@ -69,20 +69,12 @@ number_span _ = None
 -- the range of the first parts of pairs, as `first_in` reads an output
 abbrev pub first_range_in : OutputRange → OutputRange
 first_range_in (pairs a b) = a
-first_range_in nothing = nothing
-first_range_in (numbers s) = numbers s
-first_range_in (sides a b) = sides a b
-first_range_in (lists s) = lists s
-first_range_in anything = anything
+first_range_in r = r
 
 -- the range of the second parts
 abbrev pub second_range_in : OutputRange → OutputRange
 second_range_in (pairs a b) = b
-second_range_in nothing = nothing
-second_range_in (numbers s) = numbers s
-second_range_in (sides a b) = sides a b
-second_range_in (lists s) = lists s
-second_range_in anything = anything
+second_range_in r = r
 
 -- the span of the lengths of lists, if it has lists alone
 abbrev pub size_span : OutputRange → Option Span
@@ -137,11 +129,7 @@ each_bound f (Some s) = Some (span (f s.low) (f s.high))
 -- the range of what is on either side
 abbrev pub merge_range : OutputRange → OutputRange
 merge_range (sides a b) = output_hull a b
-merge_range nothing = nothing
-merge_range (numbers s) = numbers s
-merge_range (pairs a b) = pairs a b
-merge_range (lists s) = lists s
-merge_range anything = anything
+merge_range r = r
 
 -- the range of a function's results
 abbrev pub applied_range : Func → OutputRange → OutputRange
