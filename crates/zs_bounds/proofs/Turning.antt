@@ -1,16 +1,12 @@
--- What two parts in turn return together, and the states of a schedule that may begin.
-use Rattle.std.proofs.Common.{◌≡◌, Bool, true, false, ◌&&◌, ◌||◌, not, refl, ap, ◌∙◌, if◌then◌else◌}
-use Rattle.zs_term.specs.Schedule.{Schedule, Leaf, leaf, two, over, both, either, and_then}
-use Rattle.zs_term.specs.Schedule.{collect_all}
-use Rattle.zs_bounds.specs.declared.span.Span.{Span}
-use Rattle.zs_bounds.specs.Span.{span}
+-- What two parts in turn return together, and their states after a step.
+use Rattle.std.proofs.Common.{◌≡◌, Bool, true, false, ◌||◌, refl, ap, ◌∙◌, if◌then◌else◌}
+use Rattle.zs_term.specs.Schedule.{Schedule}
 use Rattle.zs_bounds.specs.AnswerRange.{AnswerRange, no_result, result_hull, results_if, left_range}
 use Rattle.zs_bounds.specs.AnswerRange.{right_range}
 use Rattle.zs_bounds.specs.DecisionRange.{may_go_on}
-use Rattle.zs_bounds.specs.StateRange.{StateRange, counts, parts, turns, items, turn_range}
-use Rattle.zs_bounds.specs.StateRange.{turn_state, with_first, first_state, first_range, begun}
-use Rattle.zs_bounds.specs.StateRange.{more_items}
-use Rattle.zs_bounds.specs.Node.{begun_span, turns_joined}
+use Rattle.zs_bounds.specs.StateRange.{StateRange, turns, turn_range, turn_state, with_first}
+use Rattle.zs_bounds.specs.StateRange.{first_state, begun}
+use Rattle.zs_bounds.specs.Node.{turns_joined}
 
 -- ---- results
 
@@ -78,48 +74,6 @@ turn_states p q on a x b s c n d m first old second x_is on_is first_is old_is s
     (second_is ∙ ap (λ z. begun x.decision.stops q (with_first z old) (first_state z) old) s_is
     ∙ ap (λ z. begun x.decision.stops q (with_first b z) (first_state b) z) old_is)
     ∙ ap (λ z. turns (may_go_on z.decision) (q || z.decision.stops) (if p then n else c)
-        (begun z.decision.stops q (with_first b (if q then m else d)) (first_state b)
-        (if q then m else d))) x_is
+    (begun z.decision.stops q (with_first b (if q then m else d)) (first_state b)
+    (if q then m else d))) x_is
     ∙ moved p q a b c n d m
-
--- ---- states with the first one, by those of the parts
-
-pub begun_counts : (on : Bool) (l : Leaf) (n t : Span) →
-    counts (begun_span on n (span 1 1)) (begun_span on t (span 0 0))
-    ≡ begun true on (with_first (leaf l) (counts n t)) (first_state (leaf l)) (counts n t)
-begun_counts true l n t = refl
-begun_counts false l n t = refl
-
-pub begun_both : (on : Bool) (a b : Schedule) (x y : StateRange) →
-    parts (begun true on (with_first a x) (first_state a) x)
-    (begun true on (with_first b y) (first_state b) y)
-    ≡ begun true on (with_first (two both a b) (parts x y)) (first_state (two both a b)) (parts x y)
-begun_both true a b x y = refl
-begun_both false a b x y = refl
-
-pub begun_either : (on : Bool) (a b : Schedule) (x y : StateRange) →
-    parts (begun true on (with_first a x) (first_state a) x)
-    (begun true on (with_first b y) (first_state b) y)
-    ≡ begun true on (with_first (two either a b) (parts x y)) (first_state (two either a b))
-    (parts x y)
-begun_either true a b x y = refl
-begun_either false a b x y = refl
-
-pub begun_turns : (on p q : Bool) (a b : Schedule) (x y : StateRange) →
-    turns ((on && p) || may_go_on (first_range a).decision)
-    ((on && q) || (first_range a).decision.stops)
-    (begun (not on || may_go_on (first_range a).decision) (on && p) (with_first a x) (first_state a)
-    x)
-    (begun (not on || (first_range a).decision.stops) (on && q) (with_first b y) (first_state b) y)
-    ≡ begun true on (with_first (two and_then a b) (turns p q x y)) (first_state (two and_then a b))
-    (turns p q x y)
-begun_turns true p q a b x y = refl
-begun_turns false p q a b x y = refl
-
-pub begun_items : (on : Bool) (s : Schedule) (n : Span) (x : StateRange) →
-    items (begun_span on n (more_items (first_range s).decision (span 0 0)))
-    (begun true on (with_first s x) (first_state s) x)
-    ≡ begun true on (with_first (over s collect_all) (items n x)) (first_state (over s collect_all))
-    (items n x)
-begun_items true s n x = refl
-begun_items false s n x = refl

@@ -116,5 +116,9 @@ pub(crate) fn reset_range(
     if !passes {
         return answer;
     }
-    if fails { result_hull(answer, first) } else { first }
+    if fails {
+        result_hull(answer, first)
+    } else {
+        first
+    }
 }

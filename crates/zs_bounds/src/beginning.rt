@@ -9,7 +9,6 @@ use crate::span::Span;
 
 // Adds the state after the first step to those of a node that may begin. It is the node's only
 // state if the node was not on.
-#[tactic(auto, using(crate::proofs::Turning::begun_counts, crate::proofs::Turning::begun_both, crate::proofs::Turning::begun_either, crate::proofs::Turning::begun_turns, crate::proofs::Turning::begun_items))]
 pub(crate) fn begin(begins: bool, is_on: bool, node: &mut Node)
     requires firsts { KnowsFirsts node.old }
     ensures state { node_state node.new ≡ node_begun begins is_on node.old }

@@ -106,5 +106,9 @@ fn step_if(next: Next, is_on: bool, part: &mut Node) -> Result<AnswerRange, Allo
     ensures state { OnOk result (node_state part.new ≡ state_if is_on part.old next.later) }
     ensures same { OnOk result (SameNode part.old part.new) }
 {
-    if is_on { step(next, part) } else { Ok(no_result()) }
+    if is_on {
+        step(next, part)
+    } else {
+        Ok(no_result())
+    }
 }

@@ -28,15 +28,16 @@ step_and_then-returns-clause-moves t c =
     let later = c.args.next.later in
     let stops = c.in_ok-x.x.1.stops in
     let on : c.if-is_on.turns ≡ (c.args.turns.now.second_on || stops) =
-        elim c.if-is_on.branch [
-          step_and_then-then-is_on w ↦
-            w.turns-is ∙ w.if-is_on.true ∙ sym (ap (λ z. z || stops) w.if-is_on.true)
-        | step_and_then-else-is_on w ↦
-            w.turns-is ∙ sym (ap (λ z. z || stops) w.if-is_on.false) ] in
+    elim c.if-is_on.branch [
+      | step_and_then-then-is_on w ↦
+          w.turns-is ∙ w.if-is_on.true ∙ sym (ap (λ z. z || stops) w.if-is_on.true)
+      | step_and_then-else-is_on w ↦
+          w.turns-is ∙ sym (ap (λ z. z || stops) w.if-is_on.false)
+    ] in
     record {
       state =
           ap (λ z. turns c.may_go_on-turns.result z (node_state c.step_if.new.part)
-              (node_state c.begin.new.node)) on
+          (node_state c.begin.new.node)) on
           ∙ turn_states c.args.turns.now.first_on c.args.turns.now.second_on c.may_go_on-turns.result
           (next_range a x later) (result_range c.in_ok-x.x) b (node_schedule c.step_if-2.new.part)
           x (next_state a x later) y (next_state b y later)
@@ -45,7 +46,9 @@ step_and_then-returns-clause-moves t c =
           c.in_ok-x.ensures.state c.in_ok-y.ensures.state c.in_ok-y.ensures.same.0
           c.begin.ensures.state;
       first = c.in_ok-x.ensures.same;
-      second = (c.begin.ensures.same.0 ∙ c.in_ok-y.ensures.same.0,
-          c.begin.ensures.same.1 ∙ c.in_ok-y.ensures.same.1);
+      second = (
+        c.begin.ensures.same.0 ∙ c.in_ok-y.ensures.same.0,
+        c.begin.ensures.same.1 ∙ c.in_ok-y.ensures.same.1,
+      );
       begins = (refl, refl);
     }
