@@ -1,5 +1,5 @@
 -- Ranges of outputs, and what tests and functions make of them.
-use Rattle.std.proofs.Common.{◌≡◌, refl, ℕ, ◌+◌, ◌*◌, ◌≤◌, Option, Some, None, arith}
+use Rattle.std.proofs.Common.{ℕ, ◌+◌, ◌*◌, ◌≤◌, Option, Some, None, arith}
 use Rattle.std.proofs.Math.Nat.{mul-le-mul_right}
 use Rattle.zs_term.specs.Saturating.{saturated}
 use Rattle.zs_term.specs.Output.{Output, number, pair, left, right, listed, count, number_in, first_in, second_in, size_in, merge_in, picked, applied}
@@ -20,14 +20,6 @@ in-anything (right x) = tt
 in-anything (listed xs) = tt
 
 -- ---- ranges around two
-
-pub hull_nothing : (r : OutputRange) → output_hull r nothing ≡ r
-hull_nothing nothing = refl
-hull_nothing (numbers s) = refl
-hull_nothing (pairs a b) = refl
-hull_nothing (sides a b) = refl
-hull_nothing (lists s) = refl
-hull_nothing anything = refl
 
 pub output-left : (v : Output) (a b : OutputRange) → IsOutputIn v a → IsOutputIn v (output_hull a b)
 output-left (number n) nothing r h = absurd h

@@ -85,7 +85,6 @@ fn lists_hull(span: Span, second: OutRange) -> OutRange
 
 // Widens a range, so that it is around another one too.
 #[cycle(joining)]
-#[tactic(auto, using(crate::proofs::Outputs::hull_nothing))]
 pub(crate) fn join(range: &mut OutRange, other: OutRange)
     ensures value { output_range_of range.new
         ≡ output_hull (output_range_of range.old) (output_range_of other) }
