@@ -8,7 +8,7 @@ from zsched_tools.program import LAST_MOMENT
 from zsched_tools.words import DAY, duration, plural
 
 # The program looks at this number of steps at most, and at this number of steps of all nodes.
-MOST_STEPS, MOST_WORK = 20000, 1000000
+MOST_STEPS, MOST_WORK = 20000, 1200000
 # What is known of a policy without limits.
 _UNLIMITED = {"most": None, "longest": LAST_MOMENT + 1, "total": None, "seen": MOST_STEPS, "run": None,
               "is_endless": False, "is_cut": True}
@@ -51,7 +51,7 @@ class Driver(NamedTuple):
 class Bounds:
     """The least and the most attempts until a policy gives up, the longest wait and all waits together in milliseconds,
     the number of steps that were evaluated, the time from the begin of the first attempt to the end of the last,
-    whether attempts have a greatest duration, whether the policy never gives up, whether the program was proved, and
+    whether attempts have a greatest duration, whether the policy never gives up, whether they are proved, and
     whether there may be more steps than it looks at. None is an unknown number."""
     least: int
     most: int | None
@@ -124,6 +124,7 @@ def of_policies(path, policies, drivers):
             groups.setdefault((driver, driven[1]), []).append(driven[0])
     found = {(driver, waits): iter(run(path, group, driver, waits)) for (driver, waits), group in groups.items()}
     bounds = [next(found[driver, driven[1]]) if driven else Bounds(1, **_UNLIMITED) for driven, driver in asked]
+    bounds = [replace(it, is_proved=it.is_proved and not policy.is_argued) for policy, it in zip(policies, bounds)]
     return [replace(it, **_UNLIMITED) if policy.is_cut else it for policy, it in zip(policies, bounds)]
 
 

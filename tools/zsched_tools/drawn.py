@@ -214,6 +214,11 @@ class Policy:
                 lows.append(100 * given[0][0] // given[1][0])
         return high, (min(lows), 100)
 
+    @property
+    def is_argued(self):
+        """Whether what holds for every draw isn't proved: if a part alone is drawn, by what `driven` says of it."""
+        return self.is_drawn and not self.is_whole and self.driven() is not None
+
     def _jitter(self, found):
         """The pieces of a jitter: the schedule before it, and its words."""
         begin, end = _operand(self.source, found.start()), found.start()

@@ -149,7 +149,8 @@ def _not_proved(given, policy, bounds):
             shown = without if found is None else words.format(
                 plural(found, "attempt") if name == "most" else bounding.rounded(found))
         elif limit is not None and not (bounds.is_proved or given.allow_unproved):
-            shown = "zsched-bounds is unproved (--allow-unproved accepts it)"
+            what = "what holds for draws of a part" if policy.is_argued else "zsched-bounds"
+            shown = f"{what} is unproved (--allow-unproved accepts it)"
         else:
             continue
         yield f"--require-{name} {limit if name == 'most' else duration(limit)} is not proved: {shown}"
