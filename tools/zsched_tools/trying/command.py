@@ -137,10 +137,11 @@ def _exceeded(given, policy, found):
 
 def _not_proved(given, policy, bounds):
     """The required bounds of a policy that aren't proved, in words."""
-    wait = None if bounds.is_cut else bounds.longest
+    longest, _ = bounds.limits()
+    no_wait = "no limit of each wait" if longest is None else f"no limit after the first {bounds.seen} waits"
     for name, found, words, without in [
             ("most", bounds.most, "up to {}", "no limit of attempts"),
-            ("wait", wait, "waits of up to {}", f"no limit after the first {bounds.seen} waits"),
+            ("wait", None if bounds.is_cut else longest, "waits of up to {}", no_wait),
             ("total", bounds.total, "waits of up to {} in all", "no limit of waits"),
             ("end", bounds.run, "a call of up to {}", "no limit of the whole call")]:
         limit = getattr(given, f"require_{name}")
