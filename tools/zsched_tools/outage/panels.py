@@ -29,6 +29,7 @@ text{font-family:"DejaVu Sans",Verdana,Geneva,sans-serif;fill:var(--ink);font-si
 .page{fill:var(--page)}.grid{stroke:var(--grid);fill:none}.edge{stroke:var(--edge);fill:none}
 .ok{fill:var(--ok)}.err{fill:var(--err)}.begun{fill:none;stroke:var(--ink);stroke-width:1.3}
 .running{fill:none;stroke:var(--run);stroke-width:1.3;stroke-dasharray:4 3}
+.capacity{fill:none;stroke:var(--ink);stroke-width:1.3;stroke-dasharray:1 3}
 .down{fill:var(--down)}.slow{fill:var(--slow)}.full{fill:var(--full)}"""
 NARROW, WIDE = 360, 920
 
@@ -54,7 +55,8 @@ p{{color:var(--soft);max-width:70ch}}.policy{{color:var(--ink);margin:4px 0;over
 """
 NOTE = """<p>A panel shows one policy; all have the same time and the same height for the same load. Areas are the
 attempts that ended in a second, ok above err; the line is those that began in it, the dashed line those that run at its
-end. The run of each policy is the report of a plan, which the program confirmed for every client that is certified.</p>
+end, a dotted line the most that the service serves. The run of each policy is the report of a plan, which the program
+confirmed for every client that is certified.</p>
 """
 
 
@@ -120,6 +122,16 @@ def _window_names(layout, top):
             yield text(left + 4, top - 5, words, "soft")
 
 
+def _capacities(layout, top):
+    """A line at the attempts that the service serves in a second of each window with a capacity, if loads are as high
+    as that."""
+    for window in layout.scenario.windows:
+        served = (window.capacity or 0) * THOUSAND / window.per
+        if window.begin < layout.scale.last and 0 < served <= layout.steps[-1]:
+            left, right = layout.scale.at(window.begin), layout.scale.at(window.end)
+            yield path(f"M{place(left)} {place(_height(layout, top, served))}H{place(right)}", "capacity")
+
+
 def _grid(layout, top):
     """The lines of a panel with their loads, and those of the moments."""
     for step in layout.steps:
@@ -177,6 +189,7 @@ def _panel(layout, number, name):
     yield path(_area(layout, top, rows, lambda row: row[3], lambda row: row[2] + row[3]), "ok")
     yield path(_line(layout, top, rows, lambda row: row[4]), "running")
     yield path(_line(layout, top, rows, lambda row: row[1]), "begun")
+    yield from _capacities(layout, top)
     yield from _window_names(layout, top)
     yield path(f"M{place(layout.left)} {place(top + PANEL)}H{place(layout.scale.right)}", "edge")
 
@@ -184,10 +197,13 @@ def _panel(layout, number, name):
 def _legend(layout):
     """What the colours and lines mean, and the height of its foot."""
     left, base, found = float(MARGIN), layout.bottom + 44, []
-    for style, words in [("begun", "begun"), ("ok", "ended ok"), ("err", "ended err"), ("running", "running")]:
+    styles = {"begun": "begun", "ok": "ended ok", "err": "ended err", "running": "running", "capacity": "capacity"}
+    if not [*_capacities(layout, layout.top)]:
+        del styles["capacity"]
+    for style, words in styles.items():
         if left + 24 + text_width(words, SMALL) > layout.width - MARGIN:
             left, base = float(MARGIN), base + 18
-        is_line = style in ("begun", "running")
+        is_line = style in ("begun", "running", "capacity")
         found.append(path(f"M{place(left)} {place(base - 4)}h18", style) if is_line else rectangle(
             left, base - 10, left + 18, base + 1, style))
         found.append(text(left + 24, base, words, "soft"))
