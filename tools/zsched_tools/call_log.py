@@ -99,6 +99,8 @@ class Reader:
             rows, self.word = _rows(path, data)
             (_, head), *firsts = itertools.islice(rows, 2)
             self.head = [name.strip() for name in head]
+            if not self.head:
+                raise Refused(f"{path}:1: the log has no attempt")
             self._find_columns(firsts[0][1] if firsts else [])
             self._take(itertools.chain(firsts, rows), notes, progress)
         except UnicodeDecodeError:
