@@ -298,7 +298,8 @@ def _json_rows(path, data):
         if "jobs" in whole or "policies" in whole:
             raise Refused(f"{path}:1: this is a plan or a scenario, and no log of calls")
         if any(isinstance(trace, dict) and "spans" in trace for trace in _items(whole, "data")):
-            raise Refused(f"{path}:1: these are spans as Jaeger shows them; export them as OpenTelemetry's JSON (OTLP)")
+            raise Refused(f"{path}:1: these are spans as Jaeger shows them; its /api/v3/traces/ID has them as "
+                          "OpenTelemetry's JSON (OTLP)")
         items, word = functools.partial(enumerate, whole if isinstance(whole, list) else [whole], 1), "record "
     if spans or not is_lines:
         head = dict.fromkeys(itertools.chain.from_iterable(_flat(path, word, *it) for it in items()), "")
@@ -331,7 +332,10 @@ def _items(value, *names):
 def spans_in(documents):
     """The attempts in documents of OpenTelemetry, as objects with a name for each column: the spans of the kind client,
     else those without spans below."""
-    spans = [span for document in documents for resource in _items(document, "resourceSpans", "resource_spans")
+    # Jaeger's /api/v3 has them under a key "result".
+    spans = [span for document in documents
+             for whole in (document, isinstance(document, dict) and document.get("result"))
+             for resource in _items(whole, "resourceSpans", "resource_spans")
              for scope in _items(resource, "scopeSpans", "scope_spans", "instrumentationLibrarySpans")
              for span in _items(scope, "spans") if isinstance(span, dict)]
     parents = {span.get("parentSpanId") for span in spans}
