@@ -193,11 +193,12 @@ def _job(node):
     names = ["backoffLimit", "DefaultJobBackOff", "MaxJobBackOff"]
     retries, first, most = (default("kubernetes-job", name) for name in names)
     retries = fields.get(whole, "backofflimit", default=retries)
+    deadline = 1000 * fields.get(whole, "activedeadlineseconds", default=0)
     pod = part(part(fields.take("template"), "spec"), "restartpolicy")
     left_out = [name for name in fields.left_out() if plain(name) not in (
         "selector", "manualselector", "ttlsecondsafterfinished", "managedby")]
     left_out += ["restartPolicy: OnFailure restarts a container in its pod"] if text_of(pod) == "OnFailure" else []
-    return Policy(exponential(first, 2, most), retries, left_out)
+    return Policy(exponential(first, 2, most), retries, left_out, deadline=deadline)
 
 
 def find_aws(root):
