@@ -99,11 +99,15 @@ class Bounds:
             f"{self.least} to {self.most}" if self.most != self.least else str(self.most))
         return attempts, *("–" if wait is None else rounded(wait) for wait in self.limits())
 
+    def call(self):
+        """The time of the whole call; None if it has no limit that a plan has time for."""
+        return None if self.run is None or self.run > LAST_MOMENT else self.run
+
     def end(self):
         """The end of the whole call in words. Nothing is said if there is none, or if attempts may take any time."""
         if not self.is_limited or self.is_endless:
             return ""
-        return "; no proved end" if self.run is None or self.run > LAST_MOMENT else f"; ends within {rounded(self.run)}"
+        return "; no proved end" if self.call() is None else f"; ends within {rounded(self.run)}"
 
     def line(self):
         if self.least == 1 and self.most is None and self.longest > LAST_MOMENT and not self.is_endless:

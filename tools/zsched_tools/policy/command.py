@@ -161,7 +161,8 @@ def _always(scope, one, other):
               _limit(one.most, other.most, "attempts", "{} more", "{} fewer", "attempt"),
               _limit(*waits, "each wait", "a wait that is {} longer", "a wait that is {} shorter"),
               _limit(*totals, "all waits", "{} more of waits in all", "{} less of waits in all"),
-              _limit(one.run, other.run, "the whole call", "an end that is {} later", "an end that is {} earlier")]
+              _limit(*(it.call() for it in (one, other)), "the whole call", "an end that is {} later",
+                     "an end that is {} earlier")]
     if any(limits):
         yield f"the limits of B {scope}: {listed(list(filter(None, limits)))}"
 

@@ -137,17 +137,17 @@ def _exceeded(given, policy, found):
 
 def _not_proved(given, policy, bounds):
     """The required bounds of a policy that aren't proved, in words."""
-    longest, _ = bounds.limits()
+    longest, total = bounds.limits()
     no_wait = "no limit of each wait" if longest is None else f"no limit after the first {bounds.seen} waits"
-    for name, found, words, without in [
-            ("most", bounds.most, "up to {}", "no limit of attempts"),
-            ("wait", None if bounds.is_cut else longest, "waits of up to {}", no_wait),
-            ("total", bounds.total, "waits of up to {} in all", "no limit of waits"),
-            ("end", bounds.run, "a call of up to {}", "no limit of the whole call")]:
+    for name, found, known, words, without in [
+            ("most", bounds.most, bounds.most, "up to {}", "no limit of attempts"),
+            ("wait", None if bounds.is_cut else bounds.longest, longest, "waits of up to {}", no_wait),
+            ("total", bounds.total, total, "waits of up to {} in all", "no limit of waits"),
+            ("end", bounds.run, bounds.call(), "a call of up to {}", "no limit of the whole call")]:
         limit = getattr(given, f"require_{name}")
         limit = policy.deadline if limit == OWN else limit
         if limit is not None and (found is None or found > limit):
-            shown = without if found is None else words.format(
+            shown = without if None in (found, known) else words.format(
                 plural(found, "attempt") if name == "most" else bounding.rounded(found))
         elif limit is not None and not (bounds.is_proved or given.allow_unproved):
             what = "what holds for draws of a part" if policy.is_argued else "zsched-bounds"
@@ -226,7 +226,7 @@ def as_object(policy, found, bounds):
             "for_every_input": bounds and {
                 "is_proved": bounds.is_proved, "never_gives_up": bounds.is_endless, "least_attempts": bounds.least,
                 "most_attempts": bounds.most, "longest_wait_ms": limits[0], "waited_ms": limits[1],
-                "end_ms": None if bounds.run is None or bounds.run > LAST_MOMENT else bounds.run}}
+                "end_ms": bounds.call()}}
 
 
 def _print_all(given, report, all_bounds):

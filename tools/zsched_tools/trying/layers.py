@@ -6,7 +6,7 @@ from typing import NamedTuple
 
 from zsched_tools import bounding, program
 from zsched_tools.command import Refused
-from zsched_tools.program import LAST_MOMENT, cut_plans, job_text
+from zsched_tools.program import cut_plans, job_text
 from zsched_tools.reports import attempts_in
 from zsched_tools.trials import job_names, tried_in
 from zsched_tools.words import duration, plural
@@ -94,8 +94,8 @@ class Layers:
         for level in reversed(range(len(self.names))):
             limit = self.limits[level] if level + 1 < len(self.names) else None
             if found:
-                run = found[0][1].run
-                attempt = (attempt[0], run) if run is not None and run <= LAST_MOMENT else None
+                run = found[0][1].call()
+                attempt = (attempt[0], run) if run is not None else None
             if limit and found:
                 attempt = (min(attempt[0], limit), min(attempt[1], limit)) if attempt else (1, limit)
             driver = driver._replace(attempt=attempt)
