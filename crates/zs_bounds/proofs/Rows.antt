@@ -193,7 +193,7 @@ some_jitter : bounds_of two_seconds (waiting 80 120 0 0) 20 ≡ told_run 8 6 (So
     (Some 2499)
 some_jitter = refl
 
--- A server may request 900 ms in place of 100, 200 and 400 ms. Timers are at most 5 ms late.
+-- A server may want 900 ms in place of waits of 100, 200 and 400 ms. Timers are at most 5 ms late.
 retry_after : bounds_of (two both (leaf (exponential 100 2)) (leaf (recurs 3)))
     (waiting 100 100 900 5) 20 ≡ told_run 4 4 (Some 4) 905 (Some 2715) (Some 2755)
 retry_after = refl
