@@ -137,25 +137,25 @@ goes-within (leaf x) l q h e goes = absurd cc
 goes-within (two both a b) l q h e goes =
     let each = both-go (answer_of a (q ∷ h)).decision (answer_of b (q ∷ h)).decision goes in
     smaller-within (latest_step a) (latest_step b) (q.0 - first_moment (q ∷ h)) l e
-        (λ k is. goes-within a k q h is each.0) (λ k is. goes-within b k q h is each.1)
+    (λ k is. goes-within a k q h is each.0) (λ k is. goes-within b k q h is each.1)
 goes-within (two either a b) l q h e goes =
     elim (one-goes (answer_of a (q ∷ h)).decision (answer_of b (q ∷ h)).decision goes) [
-  | inl first ↦ greater-first (latest_step a) (latest_step b) (q.0 - first_moment (q ∷ h)) l e
-      (λ k is. goes-within a k q h is first)
-  | inr second ↦ greater-second (latest_step a) (latest_step b) (q.0 - first_moment (q ∷ h)) l e
-      (λ k is. goes-within b k q h is second)
-]
+      | inl first ↦ greater-first (latest_step a) (latest_step b) (q.0 - first_moment (q ∷ h)) l e
+          (λ k is. goes-within a k q h is first)
+      | inr second ↦ greater-second (latest_step a) (latest_step b) (q.0 - first_moment (q ∷ h)) l e
+          (λ k is. goes-within b k q h is second)
+    ]
 goes-within (two and_then a b) l q h e goes = absurd cc
 goes-within (over s (while_input t)) l q h e goes =
     goes-within s l q h e
-        (goes-if (passes t (last_input (q ∷ h))) (answer_of s (q ∷ h)).decision goes).1
+    (goes-if (passes t (last_input (q ∷ h))) (answer_of s (q ∷ h)).decision goes).1
 goes-within (over s (while_output k t)) l q h e goes =
     let read = picked k (answer_of s (q ∷ h)).output in
     let each = goes-if (passes t read) (answer_of s (q ∷ h)).decision goes in
     smaller-within (latest_step s) (limit_if (reads_time k s) t) (q.0 - first_moment (q ∷ h)) l e
-        (λ n is. goes-within s n q h is each.1)
+    (λ n is. goes-within s n q h is each.1)
     (λ n is. test-within (reads_time k s) t read (q.0 - first_moment (q ∷ h)) n is each.0
-        (time-read k s q h))
+    (time-read k s q h))
 goes-within (over s collect_all) l q h e goes = goes-within s l q h e goes
 goes-within (over s (mapped f)) l q h e goes = goes-within s l q h e goes
 goes-within (over s (reset_when k t)) l q h e goes = absurd cc

@@ -21,8 +21,8 @@ bounds_from-more : (s : Schedule) (a : Driver) (n k : ℕ) (c : StateRange) (d :
     (passed : ℕ) (b : Bounds) → n ≡ suc k →
     bounds_from s a n c d passed b
     ≡ after_waits a (real_decisions a d).waits passed
-        (with_step (latest_step s) a (real_decisions a d) b)
-            (rest_of s a k c (with_step (latest_step s) a (real_decisions a d) b))
+    (with_step (latest_step s) a (real_decisions a d) b)
+    (rest_of s a k c (with_step (latest_step s) a (real_decisions a d) b))
 bounds_from-more s a n k c d passed b is = ap (λ m. bounds_from s a m c d passed b) is
 
 -- no step remains
@@ -46,12 +46,12 @@ step-is s l a d e b limit real =
 pub loop_ends : (s : Schedule) (l : Option ℕ) (a : Driver) (steps k : ℕ) (c : StateRange)
     (d e : Decisions) (passed : ℕ) (b : Bounds) → l ≡ latest_step s →
     e ≡ real_decisions a d → k < steps → e.waits ≡ None →
-        ended (with_step l a e b) ≡ bounds_from s a (steps - k) c d passed b
+    ended (with_step l a e b) ≡ bounds_from s a (steps - k) c d passed b
 loop_ends s l a steps k c d e passed b limit real lt none =
     let more : steps - k ≡ suc (steps - k - 1) = omega arith in
     let step = with_step (latest_step s) a (real_decisions a d) b in
     let is : (real_decisions a d).waits ≡ None =
-        sym (ap (λ (x : Decisions). x.waits) real) ∙ none in
+    sym (ap (λ (x : Decisions). x.waits) real) ∙ none in
     ap ended (step-is s l a d e b limit real)
     ∙ sym (bounds_from-more s a (steps - k) (steps - k - 1) c d passed b more
     ∙ ap (λ w. after_waits a w passed step (rest_of s a (steps - k - 1) c step)) is)
@@ -66,20 +66,20 @@ past-false x y le = grind arith
 pub loop_past : (s : Schedule) (l : Option ℕ) (a : Driver) (steps k : ℕ) (c : StateRange)
     (d e : Decisions) (passed : ℕ) (b : Bounds) (w : Span) → l ≡ latest_step s →
     e ≡ real_decisions a d → k < steps → e.waits ≡ Some w →
-        max_tick < passed + (time_between a w).low →
-            with_step l a e b ≡ bounds_from s a (steps - k) c d passed b
+    max_tick < passed + (time_between a w).low →
+    with_step l a e b ≡ bounds_from s a (steps - k) c d passed b
 loop_past s l a steps k c d e passed b w limit real lt some past =
     let more : steps - k ≡ suc (steps - k - 1) = omega arith in
     let later = time_between a w in
     let step = with_step (latest_step s) a (real_decisions a d) b in
     let is : (real_decisions a d).waits ≡ Some w =
-        sym (ap (λ (x : Decisions). x.waits) real) ∙ some in
+    sym (ap (λ (x : Decisions). x.waits) real) ∙ some in
     step-is s l a d e b limit real
     ∙ sym (bounds_from-more s a (steps - k) (steps - k - 1) c d passed b more
     ∙ ap (λ x. after_waits a x passed step (rest_of s a (steps - k - 1) c step)) is
     ∙ ap (λ x. unless_past x step
-        (λ _. rest_of s a (steps - k - 1) c step later (passed + later.low)))
-            (past-true max_tick (passed + later.low) past))
+    (λ _. rest_of s a (steps - k - 1) c step later (passed + later.low)))
+    (past-true max_tick (passed + later.low) past))
 
 -- a step that may go on
 pub loop_goes_on : (s : Schedule) (a : Driver) (steps k : ℕ) (c : StateRange) (d : Decisions)
@@ -95,16 +95,16 @@ loop_goes_on s a steps k c d passed b w lt some within =
     sym (bounds_from-more s a (steps - k) (steps - (k + 1)) c d passed b more
     ∙ ap (λ x. after_waits a x passed step (rest_of s a (steps - (k + 1)) c step)) some
     ∙ ap (λ x. unless_past x step
-        (λ _. rest_of s a (steps - (k + 1)) c step later (passed + later.low)))
-            (past-false max_tick (passed + later.low) within))
+    (λ _. rest_of s a (steps - (k + 1)) c step later (passed + later.low)))
+    (past-false max_tick (passed + later.low) within))
 
 -- what a turn of the loop leaves unchanged
 pub loop_keeps : (s t : Schedule) (l : Option ℕ) (a : Driver) (steps k : ℕ) (c c' : StateRange)
     (d e d' : Decisions) (passed time : ℕ) (later : Span) (b b' all : Bounds)
     (w : Span) → k < steps → e ≡ real_decisions a d → e.waits ≡ Some w → later ≡ time_between a w →
-        time ≡ min (passed + later.low) 18446744073709551615 →
+    time ≡ min (passed + later.low) 18446744073709551615 →
     time ≤ max_tick → t ≡ s → c' ≡ next_state s c later → d' ≡ (next_range s c later).decision →
-        b' ≡ with_step l a e b → l ≡ latest_step s →
+    b' ≡ with_step l a e b → l ≡ latest_step s →
     bounds_from s a (steps - k) c d passed b ≡ all → bounds_from t a (steps - (k + 1)) c' d' time b' ≡ all
 loop_keeps s t l a steps k c c' d e d' passed time later b b' all w lt real some late timed within same state decides told limit before =
     let now = time_between a w in
@@ -113,14 +113,14 @@ loop_keeps s t l a steps k c c' d e d' passed time later b b' all w lt real some
     let c-is : c' ≡ next_state s c now = state ∙ ap (λ x. next_state s c x) late in
     let d-is : d' ≡ (next_range s c now).decision = decides ∙ ap (λ x. (next_range s c x).decision) late in
     let is : (real_decisions a d).waits ≡ Some w =
-        sym (ap (λ (x : Decisions). x.waits) real) ∙ some in
+    sym (ap (λ (x : Decisions). x.waits) real) ∙ some in
     let moved : bounds_from t a (steps - (k + 1)) c' d' time b'
     ≡ bounds_from s a (steps - (k + 1)) (next_state s c now) (next_range s c now).decision
-        (passed + now.low) (with_step (latest_step s) a (real_decisions a d) b) =
+    (passed + now.low) (with_step (latest_step s) a (real_decisions a d) b) =
     ap (λ x. bounds_from x a (steps - (k + 1)) c' d' time b') same
     ∙ ap (λ x. bounds_from s a (steps - (k + 1)) x d' time b') c-is
     ∙ ap (λ x. bounds_from s a (steps - (k + 1)) (next_state s c now) x time b') d-is
     ∙ ap (λ x. bounds_from s a (steps - (k + 1)) (next_state s c now) (next_range s c now).decision x b') is_time
     ∙ ap (λ x. bounds_from s a (steps - (k + 1)) (next_state s c now) (next_range s c now).decision
-        (passed + now.low) x) (told ∙ step-is s l a d e b limit real) in
+    (passed + now.low) x) (told ∙ step-is s l a d e b limit real) in
     moved ∙ loop_goes_on s a steps k c d passed b w lt is (omega (arith, is_time, within)) ∙ before

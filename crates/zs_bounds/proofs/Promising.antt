@@ -70,7 +70,7 @@ driven-small s a p h driven =
 -- a step of a driven history that goes on is within the limit that the schedule's form shows
 driven-within : (s : Schedule) (a : Driver) (h : History) → IsDriven s a h →
     is_next (answer_of s h).decision ≡ true → (l : ℕ) → latest_step s ≡ Some l →
-        last_moment h ≤ first_moment h + l
+    last_moment h ≤ first_moment h + l
 driven-within s a [] driven goes l e = absurd driven
 driven-within s a (p ∷ h) driven goes l e = let within = goes-within s l p h e goes in
     omega (arith, within)
@@ -104,8 +104,8 @@ short-rises v x y le =
     let less = div-mul-le_self (x * v.least_percent) 100 in
     let rises = parts-rise x y v.least_percent le in
     let parts =
-        le-div (x * v.least_percent / 100) (y * v.least_percent) 100 (omega arith)
-            (omega (arith, less, rises)) in
+    le-div (x * v.least_percent / 100) (y * v.least_percent) 100 (omega arith)
+    (omega (arith, less, rises)) in
     omega (arith, parts)
 
 ceil-rises : (x y : ℕ) → x ≤ y → div_ceil x 100 ≤ div_ceil y 100
@@ -156,7 +156,7 @@ below-or n m le = grind arith
 -- if no history has n + 2 steps, none has more than n + 1
 none-longer : (s : Schedule) (a : Driver) (n : ℕ) →
     ((p q : ℕ × ℕ) (h : History) → IsDriven s a (p ∷ (q ∷ h)) → length (q ∷ h) ≡ suc n → ⊥) →
-        (h : History) → IsDriven s a h →
+    (h : History) → IsDriven s a h →
     length h ≤ suc n
 none-longer s a n never [] driven = absurd driven
 none-longer s a n never (p ∷ []) driven = omega arith
@@ -192,7 +192,7 @@ pub record HoldsUpTo (s : Schedule) (a : Driver) (n : ℕ) (b : Bounds) : Type 0
   pub first : (r : ℕ) → b.longest_run ≡ Some r → (k : ℕ) × ((a.most ≡ Some k) × (k ≤ r))
   pub next : (r : ℕ) → b.longest_run ≡ Some r → (h : History) → IsDriven s a h → length h ≤ n
       → (begun : ℕ) → IsAttempt a begun (first_moment h) → (m : ℕ) →
-          LetsEndAt a (last_moment h) (answer_of s h).decision m → m ≤ begun + r
+      LetsEndAt a (last_moment h) (answer_of s h).decision m → m ≤ begun + r
 
 wait-in : (m x : ℕ) (w : Option Span) → IsWaitIn m w x → x - m ≤ longest_in w
 wait-in m x None h = absurd h
@@ -268,7 +268,7 @@ waits-before l w None t e = absurd cc
 waits-before l w (Some u) t e =
     let greater = greater-is u (sum_within (Some (at_most l u)) w) t e in
     let sum = sum-is (nat_le (at_most l u + w) max_moment) (at_most l u + w)
-        greater.0 greater.1.0 in
+    greater.0 greater.1.0 in
     (u, (refl, (omega (arith, greater.1.1), omega (arith, greater.1.1, sum))))
 
 -- the waits before a step
@@ -292,7 +292,7 @@ within-waits (Some k) a n u waited first last le before within = let late = with
 step-waits : (s : Schedule) (a : Driver) (n : ℕ) (b : Bounds) (u : ℕ) (h : History) (us : List ℕ)
     (w t : ℕ) → HoldsUpTo s a n b → b.total ≡ Some u → IsDriven s a h → length h ≡ suc n →
     HasWaits s a h us → (d : Decision) → (answer_of s h).decision ≡ d →
-        ((v : ℕ) → WaitsFor a.waits (last_moment h) d v → v ≤ w) → u ≤ t →
+    ((v : ℕ) → WaitsFor a.waits (last_moment h) d v → v ≤ w) → u ≤ t →
     at_most (waits_limit a (latest_step s) b.seen) u + w ≤ t → sum us ≤ t
 step-waits s a n b u [] us w t holds e driven long has d is wait le added = absurd driven
 step-waits s a n b u (p ∷ h) [] w t holds e driven long has d is wait le added = absurd has
@@ -307,8 +307,8 @@ step-waits s a n b u (p ∷ h) (v ∷ us) w t holds e driven long has (Next x) i
     let seen : b.seen ≡ length h = let all = holds.seen in omega (arith, all, long) in
     let last = wait v (subst (λ y. WaitsFor a.waits p.0 y v) is has.0) in
     let waited =
-        within-waits (latest_step s) a (length h) u (sum us) (first_moment (p ∷ h))
-            p.0 earlier before (driven-within s a (p ∷ h) driven (ap is_next is)) in
+    within-waits (latest_step s) a (length h) u (sum us) (first_moment (p ∷ h))
+    p.0 earlier before (driven-within s a (p ∷ h) driven (ap is_next is)) in
     let now = subst (λ k. at_most (waits_limit a (latest_step s) k) u + w ≤ t) seen added in
     let all = sum-more v us in
     omega (arith, waited, last, now, all)
@@ -321,13 +321,13 @@ run-before l None (Some w) run r e = absurd cc
 run-before l (Some k) (Some w) None r e = absurd cc
 run-before l (Some k) (Some w) (Some u) r e =
     let greater =
-        greater-is u (sum_within (sum_within (Some (at_most (run_limit l k) u)) w.high) k) r e in
+    greater-is u (sum_within (sum_within (Some (at_most (run_limit l k) u)) w.high) k) r e in
     (u, (refl, omega (arith, greater.1.1)))
 
 -- the run up to a step that goes on
 within-run : (l : Option ℕ) (k u last first begun : ℕ) → last ≤ begun + u →
     ((x : ℕ) → l ≡ Some x → last ≤ first + x) → first ≤ begun + k →
-        last ≤ begun + at_most (run_limit l k) u
+    last ≤ begun + at_most (run_limit l k) u
 within-run None k u last first begun before within begins = before
 within-run (Some x) k u last first begun before within begins = let late = within x refl in
     omega (arith, before, late, begins)
@@ -336,20 +336,20 @@ within-run (Some x) k u last first begun before within begins = let late = withi
 wait-run : (l most : Option ℕ) (waits : Option Span) (run : Option ℕ) (r last first begun m y : ℕ)
     → longer_run l most waits run ≡ Some r → IsWaitIn last waits y →
     ((u : ℕ) → run ≡ Some u → last ≤ begun + u) → ((x : ℕ) → l ≡ Some x → last ≤ first + x) →
-        ((k : ℕ) → most ≡ Some k → first ≤ begun + k) →
+    ((k : ℕ) → most ≡ Some k → first ≤ begun + k) →
     ((k : ℕ) → most ≡ Some k → m ≤ y + k) → m ≤ begun + r
 wait-run l most None run r last first begun m y e is before within begins ends = absurd is
 wait-run l None (Some w) run r last first begun m y e is before within begins ends = absurd cc
 wait-run l (Some k) (Some w) None r last first begun m y e is before within begins ends = absurd cc
 wait-run l (Some k) (Some w) (Some u) r last first begun m y e is before within begins ends =
     let greater =
-        greater-is u (sum_within (sum_within (Some (at_most (run_limit l k) u)) w.high) k) r e in
+    greater-is u (sum_within (sum_within (Some (at_most (run_limit l k) u)) w.high) k) r e in
     let outer =
-        total-before (sum_within (Some (at_most (run_limit l k) u)) w.high)
-            k greater.0 greater.1.0 in
+    total-before (sum_within (Some (at_most (run_limit l k) u)) w.high)
+    k greater.0 greater.1.0 in
     let inner =
-        sum-is (nat_le (at_most (run_limit l k) u + w.high) max_moment)
-            (at_most (run_limit l k) u + w.high) outer.0 outer.1.0 in
+    sum-is (nat_le (at_most (run_limit l k) u + w.high) max_moment)
+    (at_most (run_limit l k) u + w.high) outer.0 outer.1.0 in
     let up_to = within-run l k u last first begun (before u refl) within (begins k refl) in
     let end = ends k refl in
     omega (arith, greater.1.1, outer.1.1, inner, up_to, is.high, end)
@@ -357,13 +357,13 @@ wait-run l (Some k) (Some w) (Some u) r last first begun m y e is before within 
 lets-run : (l : Option ℕ) (a : Driver) (d : Decisions) (run : Option ℕ) (r last first begun m : ℕ)
     (x : Decision) → longer_run l a.most (real_waits a.waits d.waits) run ≡ Some r →
     IsDecisionIn last x d → ((u : ℕ) → run ≡ Some u → last ≤ begun + u) →
-        (is_next x ≡ true → (k : ℕ) → l ≡ Some k → last ≤ first + k) → IsAttempt a begun first →
-            LetsEndAt a last x m → m ≤ begun + r
+    (is_next x ≡ true → (k : ℕ) → l ≡ Some k → last ≤ first + k) → IsAttempt a begun first →
+    LetsEndAt a last x m → m ≤ begun + r
 lets-run l a d run r last first begun m Stop e is before within begins lets = absurd lets
 lets-run l a d run r last first begun m (Next y) e is before within begins lets =
     wait-run l a.most (real_waits a.waits d.waits) run r last first begun m (last + lets.0) e
-        (real-in a.waits last y lets.0 d.waits is lets.1.0) before (within refl)
-            begins.most lets.1.1.most
+    (real-in a.waits last y lets.0 d.waits is lets.1.0) before (within refl)
+    begins.most lets.1.1.most
 
 -- the first attempt with one more step
 first-run : (l : Option ℕ) (a : Driver) (waits : Option Span) (run : Option ℕ) →
@@ -401,32 +401,32 @@ step-holds s a n c d passed b holds reaches = record {
     | inl before ↦ (let shorter = holds.longest h driven before u waits in omega (arith, shorter))
     | inr now ↦
         (let wait =
-            wait-longest a.waits (last_moment h) u (answer_of s h).decision d
-                (reaches h driven now).decides waits in omega (arith, wait))
+        wait-longest a.waits (last_moment h) u (answer_of s h).decision d
+        (reaches h driven now).decides waits in omega (arith, wait))
   ];
   total = λ t e h driven le us has.
       let part =
-          waits-before (waits_limit a (latest_step s) b.seen)
-              (longest_in (real_waits a.waits d.waits)) b.total t e in
+      waits-before (waits_limit a (latest_step s) b.seen)
+      (longest_in (real_waits a.waits d.waits)) b.total t e in
       elim (up_to-or (length h) n le) [
         | inl before ↦ (let shorter = holds.total part.0 part.1.0 h driven before us has in
-        omega (arith, shorter, part.1.1.0))
+            omega (arith, shorter, part.1.1.0))
         | inr now ↦ step-waits s a n b part.0 h us (longest_in (real_waits a.waits d.waits))
             t holds part.1.0 driven now has (answer_of s h).decision refl
             (λ v waits. wait-longest a.waits (last_moment h) v (answer_of s h).decision d
-                (reaches h driven now).decides waits) part.1.1.0 part.1.1.1
+            (reaches h driven now).decides waits) part.1.1.0 part.1.1.1
       ];
   first = first-run (latest_step s) a (real_waits a.waits d.waits) b.longest_run holds.first;
   next = λ r e h driven le begun begins m lets. elim (up_to-or (length h) n le) [
     | inl before ↦ (
         let run = run-before (latest_step s) a.most (real_waits a.waits d.waits)
-            b.longest_run r e in
+        b.longest_run r e in
         let shorter = holds.next run.0 run.1.0 h driven before begun begins m lets in
         omega (arith, shorter, run.1.1))
     | inr now ↦ lets-run (latest_step s) a d b.longest_run r (last_moment h) (first_moment h)
         begun m (answer_of s h).decision e (reaches h driven now).decides
         (λ u is. run-up_to s a n b holds u is h driven le begun begins)
-            (driven-within s a h driven) begins lets
+        (driven-within s a h driven) begins lets
   ];
 }
 
@@ -443,9 +443,10 @@ time-in : (a : Driver) (m x : ℕ) (d : Decision) (w : Span) (r : Decisions) →
 time-in a m x Stop w r is e lets tick = absurd lets
 time-in a m x (Next y) w r is e lets tick =
     let wait : IsAfter m w (m + lets.0) =
-        subst (λ v. IsWaitIn m v (m + lets.0)) e (real-in a.waits m y lets.0 r.waits is lets.1.0) in
-    (omega (arith, wait.low, lets.1.1.least),
-        longest-in a.most w.high m (m + lets.0) x wait.high lets.1.1.most tick)
+    subst (λ v. IsWaitIn m v (m + lets.0)) e (real-in a.waits m y lets.0 r.waits is lets.1.0) in (
+      omega (arith, wait.low, lets.1.1.least),
+      longest-in a.most w.high m (m + lets.0) x wait.high lets.1.1.most tick,
+    )
 
 -- no later step, if the last one may not go on
 none-goes_on : (s : Schedule) (a : Driver) (n : ℕ) (c : StateRange) (d : Decisions) (passed : ℕ) →
@@ -453,8 +454,8 @@ none-goes_on : (s : Schedule) (a : Driver) (n : ℕ) (c : StateRange) (d : Decis
     (p q : ℕ × ℕ) (h : History) → IsDriven s a (p ∷ (q ∷ h)) → length (q ∷ h) ≡ suc n → ⊥
 none-goes_on s a n c d passed reaches e p q h driven long =
     let stop =
-        stop-only q.0 (answer_of s (q ∷ h)).decision d (reaches (q ∷ h) driven.2 long).decides
-            (real-none a.waits d.waits e) in
+    stop-only q.0 (answer_of s (q ∷ h)).decision d (reaches (q ∷ h) driven.2 long).decides
+    (real-none a.waits d.waits e) in
     subst (λ x. LetsEndAt a q.0 x p.0) stop driven.1
 
 -- nor if it would be past the clock
@@ -515,7 +516,7 @@ past-promises s a n b holds none short = record {
 -- a wait of a driver after a decision to go on is within the limit that the form shows
 real-within : (s : Schedule) (a : Driver) (p : ℕ × ℕ) (h : History) (w u : ℕ) →
     wait_limit s ≡ Some w → WaitsFor a.waits p.0 (answer_of s (p ∷ h)).decision u →
-        u ≤ longest_wait a.waits w
+    u ≤ longest_wait a.waits w
 real-within s a p h w u e waits =
     real-by a.waits p.0 w u (answer_of s (p ∷ h)).decision (waits-within s w e p h) waits
 
@@ -524,10 +525,20 @@ total-parts : (a : Driver) (l w : Option ℕ) (t : ℕ) → total_limit l (real_
     (k : ℕ) × ((n : ℕ) × ((l ≡ Some k) × ((w ≡ Some n) × (k + longest_wait a.waits n ≡ t))))
 total-parts a None w t e = absurd cc
 total-parts a (Some k) None t e = absurd cc
-total-parts a (Some k) (Some n) t e =
-    (k, (n, (refl,
-        (refl, sum-is (nat_le (k + longest_wait a.waits n) max_moment) (k + longest_wait a.waits n)
-            t e))))
+total-parts a (Some k) (Some n) t e = (
+  k,
+  (
+    n,
+    (
+      refl,
+      (
+        refl,
+        sum-is (nat_le (k + longest_wait a.waits n) max_moment) (k + longest_wait a.waits n)
+            t e,
+      ),
+    ),
+  ),
+)
 
 run-parts : (most t : Option ℕ) (r : ℕ) → whole_run most t ≡ Some r →
     (k : ℕ) × ((x : ℕ) × ((most ≡ Some k) × ((t ≡ Some x) × (x + k + k ≡ r))))
@@ -550,7 +561,7 @@ lets-waits a m x (Next y) lets = lets
 going-waits : (s : Schedule) (a : Driver) (l w : ℕ) (p : ℕ × ℕ) (h : History) (us : List ℕ) →
     latest_step s ≡ Some l → wait_limit s ≡ Some w → IsDriven s a (p ∷ h) →
     is_next (answer_of s (p ∷ h)).decision ≡ true → HasWaits s a (p ∷ h) us →
-        sum us ≤ l + longest_wait a.waits w
+    sum us ≤ l + longest_wait a.waits w
 going-waits s a l w p h [] e f driven goes has = absurd has
 going-waits s a l w p h (u ∷ us) e f driven goes has =
     let before = driven-waits s a p h u us has in
@@ -574,19 +585,19 @@ all-waits s a l w (p ∷ []) (u ∷ (v ∷ us)) e f driven Stop is has = absurd 
 all-waits s a l w (p ∷ (q ∷ h)) (u ∷ us) e f driven Stop is has =
     let none : u ≡ 0 = subst (λ x. WaitsFor a.waits p.0 x u) is has.0 in
     let earlier =
-        going-waits s a l w q h us e f driven.2
-            (lets-goes a q.0 p.0 (answer_of s (q ∷ h)).decision driven.1) has.2 in
+    going-waits s a l w q h us e f driven.2
+    (lets-goes a q.0 p.0 (answer_of s (q ∷ h)).decision driven.1) has.2 in
     let all = sum-more u us in omega (arith, none, earlier, all)
 
 -- an attempt that a step lets begin
 going-run : (s : Schedule) (a : Driver) (l w k : ℕ) (p : ℕ × ℕ) (h : History) (begun m : ℕ) →
     latest_step s ≡ Some l → wait_limit s ≡ Some w → a.most ≡ Some k → IsDriven s a (p ∷ h) →
     IsAttempt a begun (first_moment (p ∷ h)) → LetsEndAt a p.0 (answer_of s (p ∷ h)).decision m →
-        m ≤ begun + (l + longest_wait a.waits w + k + k)
+    m ≤ begun + (l + longest_wait a.waits w + k + k)
 going-run s a l w k p h begun m e f most driven begins lets =
     let late =
-        driven-within s a (p ∷ h) driven (lets-goes a p.0 m (answer_of s (p ∷ h)).decision lets)
-            l e in
+    driven-within s a (p ∷ h) driven (lets-goes a p.0 m (answer_of s (p ∷ h)).decision lets)
+    l e in
     let waits = lets-waits a p.0 m (answer_of s (p ∷ h)).decision lets in
     let wait = real-within s a p h w waits.0 f waits.1.0 in
     let first = begins.most k most in
@@ -595,7 +606,7 @@ going-run s a l w k p h begun m e f most driven begins lets =
 
 whole-next : (s : Schedule) (a : Driver) (r : ℕ) →
     whole_run a.most (total_limit (latest_step s) (real_limit a (wait_limit s))) ≡ Some r →
-        (begun : ℕ) (h : History) (m : ℕ) →
+    (begun : ℕ) (h : History) (m : ℕ) →
     NextEndsAt s a begun h m → m ≤ begun + r
 whole-next s a r e begun [] m ends =
     let run = run-parts a.most (total_limit (latest_step s) (real_limit a (wait_limit s))) r e in
@@ -609,7 +620,7 @@ whole-next s a r e begun (p ∷ h) m ends =
 
 whole-run : (s : Schedule) (a : Driver) (r : ℕ) →
     whole_run a.most (total_limit (latest_step s) (real_limit a (wait_limit s))) ≡ Some r →
-        (h : History) → IsDriven s a h →
+    (h : History) → IsDriven s a h →
     (begun : ℕ) → IsAttempt a begun (first_moment h) → last_moment h ≤ begun + r
 whole-run s a r e [] driven begun begins = absurd driven
 whole-run s a r e (p ∷ []) driven begun begins = whole-next s a r e begun [] p.0 begins
@@ -627,7 +638,7 @@ unended-promises s a n b holds = record {
   total = λ t e h driven us has. (
       let parts = total-parts a (latest_step s) (wait_limit s) t e in
       let all = all-waits s a parts.0 parts.1.0 h us parts.1.1.0 parts.1.1.1.0 driven
-          (answer_of s h).decision refl has in
+      (answer_of s h).decision refl has in
       omega (arith, all, parts.1.1.1.1));
   run = whole-run s a;
   next = whole-next s a;
@@ -640,8 +651,8 @@ unended-promises s a n b holds = record {
 step-reaches : (s : Schedule) (a : Driver) (n : ℕ) (c : StateRange) (d : Decisions) (passed : ℕ)
     (w : Span) → has_factors s ≡ true → Reaches s a (suc n) c d passed →
     real_waits a.waits d.waits ≡ Some w →
-        Reaches s a (suc (suc n)) (next_state s c (time_between a w))
-            (next_range s c (time_between a w)).decision (passed + (time_between a w).low)
+    Reaches s a (suc (suc n)) (next_state s c (time_between a w))
+    (next_range s c (time_between a w)).decision (passed + (time_between a w).low)
 step-reaches s a n c d passed w factors reaches e [] driven long = absurd driven
 step-reaches s a n c d passed w factors reaches e (p ∷ []) driven long = absurd (omega (arith, long))
 step-reaches s a n c d passed w factors reaches e (p ∷ (q ∷ h)) driven long =
@@ -667,10 +678,10 @@ past-lt x y e = grind arith
 waits-promises : (s : Schedule) (a : Driver) (n : ℕ) (c : StateRange) (d : Decisions) (passed : ℕ)
     (b : Bounds) (w : Span) (past : Bool) (rest : Unit {0} → Bounds) →
     nat_lt max_tick (passed + (time_between a w).low) ≡ past →
-        HoldsUpTo s a (suc n) (with_step (latest_step s) a (real_decisions a d) b) →
-            Reaches s a (suc n) c d passed → real_waits a.waits d.waits ≡ Some w →
+    HoldsUpTo s a (suc n) (with_step (latest_step s) a (real_decisions a d) b) →
+    Reaches s a (suc n) c d passed → real_waits a.waits d.waits ≡ Some w →
     Promises s a (rest tt) →
-        Promises s a (unless_past past (with_step (latest_step s) a (real_decisions a d) b) rest)
+    Promises s a (unless_past past (with_step (latest_step s) a (real_decisions a d) b) rest)
 waits-promises s a n c d passed b w true rest e holds reaches is promised =
     past-promises s a n (with_step (latest_step s) a (real_decisions a d) b) holds refl
     (none-longer s a n (none-in_time s a n c d passed w reaches is (past-lt max_tick (passed + (time_between a w).low) e)))
@@ -680,17 +691,17 @@ waits-promises s a n c d passed b w false rest e holds reaches is promised = pro
 after-promises : (s : Schedule) (a : Driver) (n : ℕ) (c : StateRange) (d : Decisions) (passed : ℕ)
     (b : Bounds) (waits : Option Span) (rest : Span → ℕ → Bounds) →
     HoldsUpTo s a (suc n) (with_step (latest_step s) a (real_decisions a d) b) →
-        Reaches s a (suc n) c d passed → real_waits a.waits d.waits ≡ waits →
+    Reaches s a (suc n) c d passed → real_waits a.waits d.waits ≡ waits →
     ((w : Span) → real_waits a.waits d.waits ≡ Some w →
-        Promises s a (rest (time_between a w) (passed + (time_between a w).low))) →
-            Promises s a
-                (after_waits a waits passed (with_step (latest_step s) a (real_decisions a d) b)
-                    rest)
+    Promises s a (rest (time_between a w) (passed + (time_between a w).low))) →
+    Promises s a
+    (after_waits a waits passed (with_step (latest_step s) a (real_decisions a d) b)
+    rest)
 after-promises s a n c d passed b None rest holds reaches is promised =
     ended-promises s a n (with_step (latest_step s) a (real_decisions a d) b) holds
-        (none-longer s a n (none-goes_on s a n c d passed reaches is))
+    (none-longer s a n (none-goes_on s a n c d passed reaches is))
     (λ h driven long. stop-only (last_moment h) (answer_of s h).decision d
-        (reaches h driven long).decides (real-none a.waits d.waits is))
+    (reaches h driven long).decides (real-none a.waits d.waits is))
 after-promises s a n c d passed b (Some w) rest holds reaches is promised =
     waits-promises s a n c d passed b w (nat_lt max_tick (passed + (time_between a w).low)) (λ _. rest (time_between a w) (passed + (time_between a w).low)) refl holds reaches is (promised w is)
 
@@ -703,10 +714,10 @@ bounds_from-promises s a (suc more) n c d passed b factors holds reaches =
     let now = step-holds s a n c d passed b holds reaches in
     after-promises s a n c d passed b (real_waits a.waits d.waits)
     (λ later time. bounds_from s a more (next_state s c later) (next_range s c later).decision time
-        (with_step (latest_step s) a (real_decisions a d) b)) now reaches refl
+    (with_step (latest_step s) a (real_decisions a d) b)) now reaches refl
     (λ w is. bounds_from-promises s a more (suc n) (next_state s c (time_between a w))
-        (next_range s c (time_between a w)).decision (passed + (time_between a w).low)
-            (with_step (latest_step s) a (real_decisions a d) b)
+    (next_range s c (time_between a w)).decision (passed + (time_between a w).low)
+    (with_step (latest_step s) a (real_decisions a d) b)
     factors now (step-reaches s a n c d passed w factors reaches is))
 
 some-step : (s : Schedule) (a : Driver) (h : History) → IsDriven s a h → length h ≤ 0 → ⊥

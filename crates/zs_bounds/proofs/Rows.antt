@@ -51,7 +51,7 @@ for_two_seconds = refl
 -- 250, 500, .., 1250; the sixth delay is 1500, and ends it
 growing_delays : bounds_of
     (over (leaf (linear 250)) (while_output Whole (record { cmp = Lt; than = 1500 })))
-        exact_driver 20 ≡ told 6 6 (Some 6) 1250 (Some 3750)
+    exact_driver 20 ≡ told 6 6 (Some 6) 1250 (Some 3750)
 growing_delays = refl
 
 -- three quick waits of 100, 200, 400 ms, four slow ones of 5000 ms, and a minute in all
@@ -66,7 +66,7 @@ fallback = refl
 -- it gives up at the first missing page, which may be at once or never
 until_missing : bounds_of
     (over (leaf (spaced 1000)) (while_input (record { cmp = Ne; than = 404 })))
-        exact_driver 5 ≡ told 5 1 None 1000 None
+    exact_driver 5 ≡ told 5 1 None 1000 None
 until_missing = refl
 
 -- it never gives up by itself
@@ -90,7 +90,7 @@ periods = refl
 -- a reset at the third step, which has two items: then it starts again
 resets : bounds_of
     (over (over (leaf (recurs 5)) collect_all) (reset_when SizeOf (record { cmp = Eq; than = 2 })))
-        exact_driver 9 ≡ told 9 10 None 0 None
+    exact_driver 9 ≡ told 9 10 None 0 None
 resets = refl
 
 -- ---- with a most
@@ -132,26 +132,26 @@ ends_in_time = refl
 -- is 11 ms after it, and before the third are waits of at most 17 ms, since two attempts are too.
 short_periods : bounds_of
     (two both (leaf (fixed 10))
-        (over (leaf elapsed) (while_output Whole (record { cmp = Lt; than = 20 })))) exact_driver 20
+    (over (leaf elapsed) (while_output Whole (record { cmp = Lt; than = 20 })))) exact_driver 20
     ≡ told 11 2 (Some 11) 10 (Some 27)
 short_periods = refl
 
 -- a limit in each part: the later one counts
 latest_of_either : latest_step
     (two either two_seconds
-        (over (leaf elapsed) (while_output Whole (record { cmp = Le; than = 3000 })))) ≡ Some 3000
+    (over (leaf elapsed) (while_output Whole (record { cmp = Le; than = 3000 })))) ≡ Some 3000
 latest_of_either = refl
 
 -- the time of a part that has been reset isn't that since the first step
 reset_has_no_latest : latest_step
     (over (over (leaf elapsed) (reset_when Whole (record { cmp = Ge; than = 5 })))
-        (while_output Whole (record { cmp = Lt; than = 9 }))) ≡ None
+    (while_output Whole (record { cmp = Lt; than = 9 }))) ≡ None
 reset_has_no_latest = refl
 
 -- the time in the first part of a pair, of which a function takes the first part
 latest_of_pairs : latest_step
     (over (over (two both (leaf elapsed) (leaf (spaced 10))) (mapped First))
-        (while_output Whole (record { cmp = Eq; than = 7 }))) ≡ Some 7
+    (while_output Whole (record { cmp = Eq; than = 7 }))) ≡ Some 7
 latest_of_pairs = refl
 
 -- ---- more steps than are looked at
@@ -161,7 +161,7 @@ latest_of_pairs = refl
 abbrev for_an_hour : Schedule
 for_an_hour =
     two both (two either (leaf (exponential 100 2)) (leaf (spaced 5000)))
-        (over (leaf elapsed) (while_output Whole (record { cmp = Lt; than = 3600000 })))
+    (over (leaf elapsed) (while_output Whole (record { cmp = Lt; than = 3600000 })))
 
 an_hour_at_most : bounds_of for_an_hour (lasting 1 5000) 3 ≡ told_run 3 4 None 400 (Some 3604999)
     (Some 3614999)
@@ -177,8 +177,12 @@ longest_of_either = refl
 -- attempts of 1 to 10 ms and these waits
 abbrev waiting : ℕ → ℕ → ℕ → ℕ → Driver
 waiting least most asked late =
-    record { least = 1; most = Some 10; waits =
-        record { least_percent = least; most_percent = most; asked = asked; late = late } }
+    record {
+      least = 1;
+      most = Some 10;
+      waits =
+          record { least_percent = least; most_percent = most; asked = asked; late = late };
+    }
 
 -- Full jitter: waits of 0 to 400 ms. A step that goes on is at most 1999 ms after the first, so all
 -- waits are at most 1999 ms less an attempt for each, and 400 ms more: the sixth step is the first
@@ -201,7 +205,7 @@ retry_after = refl
 -- a third of 100 ms, between 33 and 34 ms
 rounded_outwards : real_waits
     (record { least_percent = 33; most_percent = 33; asked = 0; late = 0 })
-        (Some (span 101 101)) ≡ Some (span 33 34)
+    (Some (span 101 101)) ≡ Some (span 33 34)
 rounded_outwards = refl
 
 -- ---- without an end

@@ -61,7 +61,7 @@ not-early : (v : Waits) (m u : ℕ) (d : Decision) → IsNeverEarly v → WaitsF
 not-early v m u Stop never waits = omega arith
 not-early v m u (Next x) never waits =
     let least : (x - m) * 100 / 100 ≤ u =
-        subst (λ n. (x - m) * n / 100 ≤ u) never.least waits.least in
+    subst (λ n. (x - m) * n / 100 ≤ u) never.least waits.least in
     let down = percent-down (x - m) in
     omega (arith, least, down)
 
@@ -84,16 +84,16 @@ exact-same low high small large =
     let first : shortest_wait exact_waits low ≡ low = omega (arith, down, small) in
     let last : longest_wait exact_waits high ≡ high = omega (arith, up, large) in
     subst (λ x. Some (span (shortest_wait exact_waits low) (longest_wait exact_waits high)) ≡ Some
-        (span x high)) first
+    (span x high)) first
     (subst (λ y. Some (span (shortest_wait exact_waits low) (longest_wait exact_waits high)) ≡ Some
-        (span (shortest_wait exact_waits low) y)) last refl)
+    (span (shortest_wait exact_waits low) y)) last refl)
 
 waits-exactly : (v : Waits) (m : ℕ) (d : Decision) → IsNeverEarly v → IsSmall d →
     WaitsFor v m d (wait_of m d)
 waits-exactly v m Stop never small = refl
 waits-exactly v m (Next x) never small =
     let wait : IsWait v (x - m) (x - m + 0) =
-        late-wait v (x - m) 0 never (omega arith) (omega (arith, small)) in
+    late-wait v (x - m) 0 never (omega arith) (omega (arith, small)) in
     let same : x - m + 0 ≡ x - m = omega arith in
     subst (IsWait v (x - m)) same wait
 
@@ -101,17 +101,20 @@ waits-exactly v m (Next x) never small =
 pub lets-late : (a : Driver) (s : Schedule) (h : History) (y l x : ℕ) → IsNeverEarly a.waits →
     last_moment h ≤ max_tick → (answer_of s h).decision ≡ Next y → l ≤ a.waits.late →
     y + l ≤ max y max_tick → IsAttempt a (y + l) x →
-        LetsEndAt a (last_moment h) (answer_of s h).decision x
+    LetsEndAt a (last_moment h) (answer_of s h).decision x
 lets-late a s h y l x never tick decides late by attempt =
     let m = last_moment h in
     let after : m ≤ y = subst (IsNotBefore m) decides (answer_of-late s h (omega (arith, tick))) in
     let small : y ≤ max_moment =
-        subst IsSmall decides (answer_of-small s h (omega (arith, tick))) in
+    subst IsSmall decides (answer_of-small s h (omega (arith, tick))) in
     let at : y + l ≡ m + (y - m + l) = omega (arith, after) in
-    let lets : LetsEndAt a m (Next y) x =
-    (y - m + l,
-        (late-wait a.waits (y - m) l never late (omega (arith, by, small)),
-            subst (λ z. IsAttempt a z x) at attempt)) in
+    let lets : LetsEndAt a m (Next y) x = (
+      y - m + l,
+      (
+        late-wait a.waits (y - m) l never late (omega (arith, by, small)),
+        subst (λ z. IsAttempt a z x) at attempt,
+      ),
+    ) in
     subst (λ d. LetsEndAt a m d x) (sym decides) lets
 
 pub lets-exactly : (a : Driver) (s : Schedule) (h : History) (y x : ℕ) → IsNeverEarly a.waits →
@@ -120,7 +123,7 @@ pub lets-exactly : (a : Driver) (s : Schedule) (h : History) (y x : ℕ) → IsN
 lets-exactly a s h y x never tick decides attempt =
     let at : y ≡ y + 0 = omega arith in
     lets-late a s h y 0 x never tick decides (omega arith) (omega arith)
-        (subst (λ z. IsAttempt a z x) at attempt)
+    (subst (λ z. IsAttempt a z x) at attempt)
 
 driven-tick : (s : Schedule) (a : Driver) (p : ℕ × ℕ) (h : History) → IsDriven s a (p ∷ h) →
     p.0 ≤ max_tick
@@ -132,7 +135,7 @@ waits-last : (s : Schedule) (a : Driver) (p : ℕ × ℕ) (h : History) → IsNe
 waits-last s a p h never driven =
     let tick = driven-tick s a p h driven in
     waits-exactly a.waits p.0 (answer_of s (p ∷ h)).decision never
-        (answer_of-small s (p ∷ h) (omega (arith, tick)))
+    (answer_of-small s (p ∷ h) (omega (arith, tick)))
 
 lets-waits : (a : Driver) (m x : ℕ) (d : Decision) → LetsEndAt a m d x →
     (u : ℕ) × (WaitsFor a.waits m d u × IsAttempt a (m + u) x)
@@ -169,8 +172,8 @@ all-within s a b never promises t e (p ∷ h) driven =
     let before : WaitedFor s a h p.0 = waited-for s a p h never driven in
     let last = waits-last s a p h never driven in
     let within =
-        promises.total t e (p ∷ h) driven (last_wait s (p ∷ h) ∷ before.us)
-            (last, before.ends, before.has) in
+    promises.total t e (p ∷ h) driven (last_wait s (p ∷ h) ∷ before.us)
+    (last, before.ends, before.has) in
     let sums = sum_by-cons (λ x. x) (last_wait s (p ∷ h)) before.us in
     let rest = before.all in
     omega (arith, within, rest, sums)
@@ -185,5 +188,8 @@ longest-within s a b never promises (p ∷ h) driven le =
 pub bounds-waits : (s : Schedule) (a : Driver) (b : Bounds) → IsNeverEarly a.waits → Promises s a b
     → BoundsWaits s a b
 bounds-waits s a b never promises =
-    record { longest = longest-within s a b never promises; total =
-        all-within s a b never promises }
+    record {
+      longest = longest-within s a b never promises;
+      total =
+          all-within s a b never promises;
+    }

@@ -48,7 +48,7 @@ next_run-small p [] le = omega arith
 next_run-small p (q ∷ []) le = omega arith
 next_run-small p (q ∷ (r ∷ h)) le =
     choice-small (nat_lt (next_run p (r ∷ h) + p) q.0 || nat_eq p 0) q.0
-        (q.0 + p - (q.0 - first_moment (r ∷ h)) % p) le
+    (q.0 + p - (q.0 - first_moment (r ∷ h)) % p) le
 
 -- the last moment of a part, if there is one
 abbrev moment_in : ℕ → Option History → ℕ
@@ -82,7 +82,7 @@ AllSmall a = (h : History) → last_moment h ≤ max_moment → IsSmall (a h).de
 
 sequel-small : (m : ℕ) (o : Option History) (a : Answer) (b : History → Answer) →
     ((g : History) → o ≡ Some g → last_moment g ≡ m) → m ≤ max_moment → IsSmall a.decision →
-        AllSmall b →
+    AllSmall b →
     IsSmall (sequel_of o a b).decision
 sequel-small m None a b last le first second = first
 sequel-small m (Some g) a b last le first second =
@@ -101,7 +101,7 @@ leaf-small (plain Elapsed) h le = le
 leaf-small (counted Linear n) h le = omega arith
 leaf-small (counted Windowed n) h le =
     choice-small (nat_eq n 0) (last_moment h)
-        (last_moment h + n - (last_moment h - first_moment h) % n) le
+    (last_moment h + n - (last_moment h - first_moment h) % n) le
 
 paired-small : (p : Pairing) (a b : History → Answer) → AllSmall a → AllSmall b →
     AllSmall (paired p a b)
@@ -109,7 +109,7 @@ paired-small both a b s t h le = later-small (a h).decision (b h).decision (s h 
 paired-small either a b s t h le = earlier-small (a h).decision (b h).decision (s h le) (t h le)
 paired-small and_then a b s t h le =
     sequel-small (last_moment h) (from_done a h) (a h) b (λ g e. from_done-last a h g e) le
-        (s h le) t
+    (s h le) t
 
 modified-small : (m : Modifier) (a : History → Answer) → AllSmall a → AllSmall (modified m a)
 modified-small (while_input t) a s h le =
@@ -126,5 +126,5 @@ pub answer_of-small : (t : Schedule) (h : History) → last_moment h ≤ max_mom
 answer_of-small (leaf l) h le = leaf-small l h le
 answer_of-small (two p a b) h le =
     paired-small p (answer_of a) (answer_of b) (λ g. answer_of-small a g)
-        (λ g. answer_of-small b g) h le
+    (λ g. answer_of-small b g) h le
 answer_of-small (over s m) h le = modified-small m (answer_of s) (λ g. answer_of-small s g) h le

@@ -60,7 +60,7 @@ next_run-wait p [] = omega arith
 next_run-wait p (q ∷ []) = omega arith
 next_run-wait p (q ∷ (r ∷ h)) =
     choice-wait (nat_lt (next_run p (r ∷ h) + p) q.0 || nat_eq p 0) q.0 p
-        ((q.0 - first_moment (r ∷ h)) % p)
+    ((q.0 - first_moment (r ∷ h)) % p)
 
 -- the waits of results, after every history with a step
 abbrev WaitsUpTo : (History → Answer) → ℕ → Type 0
@@ -126,8 +126,8 @@ smaller-one (Some u) (Some v) w e = smaller-by u v w (nat_le u v) refl cc
 either-wait : (a b : Schedule) (w : ℕ) (p q : Bool) → never_stops a ≡ p → never_stops b ≡ q →
     either_wait p q (wait_limit a) (wait_limit b) ≡ Some w →
     ((u : ℕ) → wait_limit a ≡ Some u → WaitsUpTo (answer_of a) u) →
-        ((v : ℕ) → wait_limit b ≡ Some v → WaitsUpTo (answer_of b) v) →
-            WaitsUpTo (answer_of (two either a b)) w
+    ((v : ℕ) → wait_limit b ≡ Some v → WaitsUpTo (answer_of b) v) →
+    WaitsUpTo (answer_of (two either a b)) w
 either-wait a b w true true first-never second-never e first second p h =
     let d = (answer_of a (p ∷ h)).decision in
     let f = (answer_of b (p ∷ h)).decision in
@@ -139,15 +139,15 @@ either-wait a b w true true first-never second-never e first second p h =
     ]
 either-wait a b w true false first-never second-never e first second p h =
     earlier-first p.0 w (answer_of a (p ∷ h)).decision (answer_of b (p ∷ h)).decision
-        (goes-on a first-never p h) (first w e p h)
+    (goes-on a first-never p h) (first w e p h)
 either-wait a b w false true first-never second-never e first second p h =
     earlier-second p.0 w (answer_of a (p ∷ h)).decision (answer_of b (p ∷ h)).decision
-        (goes-on b second-never p h) (second w e p h)
+    (goes-on b second-never p h) (second w e p h)
 either-wait a b w false false first-never second-never e first second p h =
     let g = greater-is (wait_limit a) (wait_limit b) w e in
     earlier-wait p.0 w (answer_of a (p ∷ h)).decision (answer_of b (p ∷ h)).decision
     (up-to (answer_of a) g.u w (let is = g.is in omega (arith, is)) (first g.u g.first) p h)
-        (up-to (answer_of b) g.v w (let is = g.is in omega (arith, is)) (second g.v g.second) p h)
+    (up-to (answer_of b) g.v w (let is = g.is in omega (arith, is)) (second g.v g.second) p h)
 
 -- no wait is longer than the limit
 pub waits-within : (s : Schedule) (w : ℕ) → wait_limit s ≡ Some w → WaitsUpTo (answer_of s) w
@@ -156,27 +156,27 @@ waits-within (two both a b) w e p h =
     let g = greater-is (wait_limit a) (wait_limit b) w e in
     later-wait p.0 w (answer_of a (p ∷ h)).decision (answer_of b (p ∷ h)).decision
     (up-to (answer_of a) g.u w (let is = g.is in omega (arith, is)) (waits-within a g.u g.first)
-        p h)
+    p h)
     (up-to (answer_of b) g.v w (let is = g.is in omega (arith, is)) (waits-within b g.v g.second)
-        p h)
+    p h)
 waits-within (two either a b) w e p h =
     either-wait a b w (never_stops a) (never_stops b) refl refl e (λ u is. waits-within a u is)
-        (λ v is. waits-within b v is) p h
+    (λ v is. waits-within b v is) p h
 waits-within (two and_then a b) w e p h =
     let g = greater-is (wait_limit a) (wait_limit b) w e in
     let x = answer_of a (p ∷ h) in
     sequel-wait (from_done (answer_of a) h) p w x (answer_of b) (is_next x.decision)
     (up-to (answer_of a) g.u w (let is = g.is in omega (arith, is)) (waits-within a g.u g.first)
-        p h)
+    p h)
     (up-to (answer_of b) g.v w (let is = g.is in omega (arith, is)) (waits-within b g.v g.second))
 waits-within (over s (while_input t)) w e p h =
     only_if-wait p.0 w (passes t p.1) (answer_of s (p ∷ h)).decision (waits-within s w e p h)
 waits-within (over s (while_output k t)) w e p h =
     only_if-wait p.0 w (passes t (picked k (answer_of s (p ∷ h)).output))
-        (answer_of s (p ∷ h)).decision (waits-within s w e p h)
+    (answer_of s (p ∷ h)).decision (waits-within s w e p h)
 waits-within (over s collect_all) w e p h = waits-within s w e p h
 waits-within (over s (mapped f)) w e p h = waits-within s w e p h
 waits-within (over s (reset_when k t)) w e p h =
     let g = since_reset (answer_of s) k t h in
     reset-wait (answer_of s) w (passes t (picked k (answer_of s (p ∷ g)).output)) p g
-        (waits-within s w e)
+    (waits-within s w e)

@@ -53,7 +53,7 @@ last s e outcome = record { begun = s; ended = Some (record { at = e; outcome = 
 abbrev asked : ℕ → ℕ → Outcome → Output → Decision → AttemptedValue
 asked s e outcome output decision = record {
   begun = s;
-  ended = Some (record { at = e; outcome = outcome; step = Some (answer output decision) })
+  ended = Some (record { at = e; outcome = outcome; step = Some (answer output decision) });
 }
 
 -- a job that continues, and one that has ended
@@ -88,104 +88,104 @@ abbrev rows : List Row
 rows =
     -- a retry ends with the first success; the end and the restart at 5 are one poll
     row (job Retry (leaf (recurs 3)) (bad 5 7 ∷ good 5 1 ∷ [])) (every_ms 1000)
-        (closed (asked 0 5 (Bad 7) (number 0) (Next 5) ∷ last 5 10 (Good 1) ∷ []) (Succeeded 1))
-        (0 ∷ 5 ∷ 10 ∷ [])
+    (closed (asked 0 5 (Bad 7) (number 0) (Next 5) ∷ last 5 10 (Good 1) ∷ []) (Succeeded 1))
+    (0 ∷ 5 ∷ 10 ∷ [])
     -- a repeat ends with its schedule's output
     ∷ row (job Repeat (leaf (recurs 0)) (good 3 9 ∷ [])) (every_ms 1000)
-        (closed (asked 0 3 (Good 9) (number 0) Stop ∷ []) Finished) (0 ∷ 3 ∷ [])
+    (closed (asked 0 3 (Good 9) (number 0) Stop ∷ []) Finished) (0 ∷ 3 ∷ [])
     -- delays grow, and a part that stops ends both; a retry ends with the last error
     ∷ row (job Retry (two both (leaf (exponential 10 2)) (leaf (recurs 3))) (bad 1 1 ∷ []))
-        (every_ms 1000)
-        (closed (asked 0 1 (Bad 1) (nums 10 0) (Next 11)
-        ∷ asked 11 12 (Bad 1) (nums 20 1) (Next 32) ∷ asked 32 33 (Bad 1) (nums 40 2) (Next 73)
-        ∷ asked 73 74 (Bad 1) (nums 80 3) Stop ∷ []) (Failed 1))
-        (0 ∷ 1 ∷ 11 ∷ 12 ∷ 32 ∷ 33 ∷ 73 ∷ 74 ∷ [])
+    (every_ms 1000)
+    (closed (asked 0 1 (Bad 1) (nums 10 0) (Next 11)
+    ∷ asked 11 12 (Bad 1) (nums 20 1) (Next 32) ∷ asked 32 33 (Bad 1) (nums 40 2) (Next 73)
+    ∷ asked 73 74 (Bad 1) (nums 80 3) Stop ∷ []) (Failed 1))
+    (0 ∷ 1 ∷ 11 ∷ 12 ∷ 32 ∷ 33 ∷ 73 ∷ 74 ∷ [])
     -- a fixed period that is late continues at once, and then follows its boundaries again
     ∷ row (job Repeat (leaf (fixed 100)) (good 50 1 ∷ good 250 1 ∷ good 10 1 ∷ good 10 1 ∷ []))
-        (every_ms 500)
-        (going (asked 0 50 (Good 1) (number 0) (Next 150)
-        ∷ asked 150 400 (Good 1) (number 1) (Next 400)
-        ∷ asked 400 410 (Good 1) (number 2) (Next 450)
-        ∷ asked 450 460 (Good 1) (number 3) (Next 550) ∷ []) 550)
-        (0 ∷ 50 ∷ 150 ∷ 400 ∷ 410 ∷ 450 ∷ 460 ∷ [])
+    (every_ms 500)
+    (going (asked 0 50 (Good 1) (number 0) (Next 150)
+    ∷ asked 150 400 (Good 1) (number 1) (Next 400)
+    ∷ asked 400 410 (Good 1) (number 2) (Next 450)
+    ∷ asked 450 460 (Good 1) (number 3) (Next 550) ∷ []) 550)
+    (0 ∷ 50 ∷ 150 ∷ 400 ∷ 410 ∷ 450 ∷ 460 ∷ [])
     -- an end on a boundary waits for the next one
     ∷ row (job Repeat (leaf (fixed 100)) (good 50 1 ∷ good 100 1 ∷ [])) (every_ms 300)
-        (going (asked 0 50 (Good 1) (number 0) (Next 150)
-        ∷ asked 150 250 (Good 1) (number 1) (Next 350) ∷ []) 350) (0 ∷ 50 ∷ 150 ∷ 250 ∷ [])
+    (going (asked 0 50 (Good 1) (number 0) (Next 150)
+    ∷ asked 150 250 (Good 1) (number 1) (Next 350) ∷ []) 350) (0 ∷ 50 ∷ 150 ∷ 250 ∷ [])
     -- a part that stopped continues again, and the last attempt begins at the horizon
     ∷ row (job Repeat (two either (over (leaf identity) (while_input (eq 0))) (leaf (recurs 3)))
-        (good 1 0 ∷ good 1 1 ∷ good 1 0 ∷ []))
-        (every_ms 4)
-        (going (asked 0 1 (Good 0) (nums 0 0) (Next 1) ∷ asked 1 2 (Good 1) (nums 1 1) (Next 2)
-        ∷ asked 2 3 (Good 0) (nums 0 2) (Next 3) ∷ asked 3 4 (Good 0) (nums 0 3) (Next 4) ∷ runs 4
-        ∷ []) 5) (0 ∷ 1 ∷ 2 ∷ 3 ∷ 4 ∷ [])
+    (good 1 0 ∷ good 1 1 ∷ good 1 0 ∷ []))
+    (every_ms 4)
+    (going (asked 0 1 (Good 0) (nums 0 0) (Next 1) ∷ asked 1 2 (Good 1) (nums 1 1) (Next 2)
+    ∷ asked 2 3 (Good 0) (nums 0 2) (Next 3) ∷ asked 3 4 (Good 0) (nums 0 3) (Next 4) ∷ runs 4
+    ∷ []) 5) (0 ∷ 1 ∷ 2 ∷ 3 ∷ 4 ∷ [])
     -- the output of the last step is not collected
     ∷ row (job Repeat (over (over (leaf identity) (while_input (lt 3))) collect_all)
-        (good 1 1 ∷ good 1 2 ∷ good 1 3 ∷ []))
-        (every_ms 1000)
-        (closed (asked 0 1 (Good 1) (listed none) (Next 1)
-        ∷ asked 1 2 (Good 2) (listed (more (number 1) none)) (Next 2)
-        ∷ asked 2 3 (Good 3) (listed (more (number 1) (more (number 2) none))) Stop ∷ []) Finished)
-        (0 ∷ 1 ∷ 2 ∷ 3 ∷ [])
+    (good 1 1 ∷ good 1 2 ∷ good 1 3 ∷ []))
+    (every_ms 1000)
+    (closed (asked 0 1 (Good 1) (listed none) (Next 1)
+    ∷ asked 1 2 (Good 2) (listed (more (number 1) none)) (Next 2)
+    ∷ asked 2 3 (Good 3) (listed (more (number 1) (more (number 2) none))) Stop ∷ []) Finished)
+    (0 ∷ 1 ∷ 2 ∷ 3 ∷ [])
     -- an attempt runs at the horizon
     ∷ row (job Repeat (leaf (spaced 10)) (good 4 1 ∷ [])) (every_ms 16)
-        (going (asked 0 4 (Good 1) (number 0) (Next 14) ∷ runs 14 ∷ []) 18) (0 ∷ 4 ∷ 14 ∷ [])
+    (going (asked 0 4 (Good 1) (number 0) (Next 14) ∷ runs 14 ∷ []) 18) (0 ∷ 4 ∷ 14 ∷ [])
     -- an end at the horizon counts
     ∷ row (job Repeat (leaf (spaced 10)) (good 4 1 ∷ [])) (every_ms 18)
-        (going (asked 0 4 (Good 1) (number 0) (Next 14) ∷ asked 14 18 (Good 1) (number 1) (Next 28)
-        ∷ []) 28) (0 ∷ 4 ∷ 14 ∷ 18 ∷ [])
+    (going (asked 0 4 (Good 1) (number 0) (Next 14) ∷ asked 14 18 (Good 1) (number 1) (Next 28)
+    ∷ []) 28) (0 ∷ 4 ∷ 14 ∷ 18 ∷ [])
     -- a delay saturates, and the earlier of two moments counts
     ∷ row (job Repeat (two either (leaf (exponential 1 4294967296)) (leaf (spaced 1)))
-        (good 1 0 ∷ []))
-        (every_ms 5)
-        (going (asked 0 1 (Good 0) (nums 1 0) (Next 2)
-        ∷ asked 2 3 (Good 0) (nums 4294967296 1) (Next 4)
-        ∷ asked 4 5 (Good 0) (nums max_moment 2) (Next 6) ∷ []) 6) (0 ∷ 1 ∷ 2 ∷ 3 ∷ 4 ∷ 5 ∷ [])
+    (good 1 0 ∷ []))
+    (every_ms 5)
+    (going (asked 0 1 (Good 0) (nums 1 0) (Next 2)
+    ∷ asked 2 3 (Good 0) (nums 4294967296 1) (Next 4)
+    ∷ asked 4 5 (Good 0) (nums max_moment 2) (Next 6) ∷ []) 6) (0 ∷ 1 ∷ 2 ∷ 3 ∷ 4 ∷ 5 ∷ [])
     -- the second schedule steps in the poll in which the first is done
     ∷ row (job Repeat (two and_then (leaf (recurs 2)) (leaf (recurs 1))) (good 1 5 ∷ []))
-        (every_ms 1000)
-        (closed (asked 0 1 (Good 5) (left (number 0)) (Next 1)
-        ∷ asked 1 2 (Good 5) (left (number 1)) (Next 2)
-        ∷ asked 2 3 (Good 5) (right (number 0)) (Next 3)
-        ∷ asked 3 4 (Good 5) (right (number 1)) Stop ∷ []) Finished) (0 ∷ 1 ∷ 2 ∷ 3 ∷ 4 ∷ [])
+    (every_ms 1000)
+    (closed (asked 0 1 (Good 5) (left (number 0)) (Next 1)
+    ∷ asked 1 2 (Good 5) (left (number 1)) (Next 2)
+    ∷ asked 2 3 (Good 5) (right (number 0)) (Next 3)
+    ∷ asked 3 4 (Good 5) (right (number 1)) Stop ∷ []) Finished) (0 ∷ 1 ∷ 2 ∷ 3 ∷ 4 ∷ [])
     -- a failure ends a repeat, and the schedule is not stepped
     ∷ row (job Repeat (leaf (recurs 5)) (good 2 1 ∷ bad 2 4 ∷ [])) (every_ms 1000)
-        (closed (asked 0 2 (Good 1) (number 0) (Next 2) ∷ last 2 4 (Bad 4) ∷ []) (Failed 4))
-        (0 ∷ 2 ∷ 4 ∷ [])
+    (closed (asked 0 2 (Good 1) (number 0) (Next 2) ∷ last 2 4 (Bad 4) ∷ []) (Failed 4))
+    (0 ∷ 2 ∷ 4 ∷ [])
     -- a script of three entries continues with its last one
     ∷ row (job Retry (leaf (recurs 3)) (bad 1 11 ∷ bad 2 12 ∷ bad 3 13 ∷ [])) (every_ms 1000)
-        (closed (asked 0 1 (Bad 11) (number 0) (Next 1) ∷ asked 1 3 (Bad 12) (number 1) (Next 3)
-        ∷ asked 3 6 (Bad 13) (number 2) (Next 6) ∷ asked 6 9 (Bad 13) (number 3) Stop
-        ∷ []) (Failed 13)) (0 ∷ 1 ∷ 3 ∷ 6 ∷ 9 ∷ [])
+    (closed (asked 0 1 (Bad 11) (number 0) (Next 1) ∷ asked 1 3 (Bad 12) (number 1) (Next 3)
+    ∷ asked 3 6 (Bad 13) (number 2) (Next 6) ∷ asked 6 9 (Bad 13) (number 3) Stop
+    ∷ []) (Failed 13)) (0 ∷ 1 ∷ 3 ∷ 6 ∷ 9 ∷ [])
     -- an end that saturates is never reached
     ∷ row (job_from 3 Repeat (leaf (spaced 0)) (good 2 4 ∷ good max_moment 9 ∷ [])) (every_ms 20)
-        (going (asked 3 5 (Good 4) (number 0) (Next 5) ∷ runs 5 ∷ []) max_moment) (3 ∷ 5 ∷ [])
+    (going (asked 3 5 (Good 4) (number 0) (Next 5) ∷ runs 5 ∷ []) max_moment) (3 ∷ 5 ∷ [])
     -- a start after the horizon
     ∷ row (job_from 2000 Retry (leaf (recurs 3)) (bad 5 7 ∷ good 5 1 ∷ [])) (every_ms 1000)
-        (going [] 2000) []
+    (going [] 2000) []
     -- a start at the horizon
     ∷ row (job_from 20 Repeat (leaf (spaced 1)) (good 1 4 ∷ [])) (every_ms 20)
-        (going (runs 20 ∷ []) 21) (20 ∷ [])
+    (going (runs 20 ∷ []) 21) (20 ∷ [])
     -- a clock without ticks
     ∷ row (job_from 21 Repeat (leaf (spaced 1)) (good 1 4 ∷ [])) []
-        (going [] 21) []
+    (going [] 21) []
     -- an end and a restart at the last tick
     ∷ row (job Retry (leaf (recurs 1)) (bad 1 4 ∷ [])) (every_ms 1)
-        (going (asked 0 1 (Bad 4) (number 0) (Next 1) ∷ runs 1 ∷ []) 2) (0 ∷ 1 ∷ [])
+    (going (asked 0 1 (Bad 4) (number 0) (Next 1) ∷ runs 1 ∷ []) 2) (0 ∷ 1 ∷ [])
     -- ticks with gaps between them: attempts end late
     ∷ row (job Retry (leaf (recurs 3)) (bad 5 7 ∷ good 5 1 ∷ [])) (0 ∷ 8 ∷ 20 ∷ 40 ∷ [])
-        (closed (asked 0 8 (Bad 7) (number 0) (Next 8) ∷ last 8 20 (Good 1) ∷ []) (Succeeded 1))
-        (0 ∷ 8 ∷ 20 ∷ [])
+    (closed (asked 0 8 (Bad 7) (number 0) (Next 8) ∷ last 8 20 (Good 1) ∷ []) (Succeeded 1))
+    (0 ∷ 8 ∷ 20 ∷ [])
     -- a first tick after the start
     ∷ row (job Retry (leaf (recurs 3)) (bad 5 7 ∷ good 5 1 ∷ [])) (3 ∷ 10 ∷ [])
-        (going (asked 3 10 (Bad 7) (number 0) (Next 10) ∷ runs 10 ∷ []) 15) (3 ∷ 10 ∷ [])
+    (going (asked 3 10 (Bad 7) (number 0) (Next 10) ∷ runs 10 ∷ []) 15) (3 ∷ 10 ∷ [])
     -- the attempt begins at the first tick after the schedule's moment
     ∷ row (job Repeat (leaf (spaced 10)) (good 4 1 ∷ [])) (0 ∷ 5 ∷ 16 ∷ 30 ∷ [])
-        (going (asked 0 5 (Good 1) (number 0) (Next 15) ∷ asked 16 30 (Good 1) (number 1) (Next 40)
-        ∷ []) 40) (0 ∷ 5 ∷ 16 ∷ 30 ∷ [])
+    (going (asked 0 5 (Good 1) (number 0) (Next 15) ∷ asked 16 30 (Good 1) (number 1) (Next 40)
+    ∷ []) 40) (0 ∷ 5 ∷ 16 ∷ 30 ∷ [])
     -- polled by hand, late each time
     ∷ row (job Retry (leaf (recurs 3)) (bad 5 7 ∷ good 5 1 ∷ [])) (2 ∷ 11 ∷ [])
-        (going (asked 2 11 (Bad 7) (number 0) (Next 11) ∷ runs 11 ∷ []) 16) (2 ∷ 11 ∷ [])
+    (going (asked 2 11 (Bad 7) (number 0) (Next 11) ∷ runs 11 ∷ []) 16) (2 ∷ 11 ∷ [])
     ∷ []
 
 each_has_its_timeline : map (λ r. timeline_of r.job r.ticks) rows ≡ map (λ r. r.timeline) rows

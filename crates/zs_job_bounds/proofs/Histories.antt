@@ -48,14 +48,17 @@ takes-any job ticks script = record {
 -- on a clock that ticks each millisecond nothing is late
 pub each_ms-takes : (job : JobRecord) (ticks : List ℕ) → EachMsTakes job ticks
 each_ms-takes job ticks d takes =
-    let never : d.waits.late ≡ 0 = ap (λ (v : Waits). v.late) takes.waits in
-    (record {
-      least = takes.least;
-      most = λ k e. (
+    let never : d.waits.late ≡ 0 = ap (λ (v : Waits). v.late) takes.waits in (
+      record {
+        least = takes.least;
+        most = λ k e. (
           (λ n b inside. (let part = (takes.most k e).0 n b inside in omega (arith, part, never))),
-          (λ x t from is. (let at = (takes.most k e).1 x t is in omega (arith, at))));
-      waits = subst IsNeverEarly (sym takes.waits) (record { least = refl; most = omega arith });
-    }, never)
+          (λ x t from is. (let at = (takes.most k e).1 x t is in omega (arith, at))),
+        );
+        waits = subst IsNeverEarly (sym takes.waits) (record { least = refl; most = omega arith });
+      },
+      never,
+    )
 
 -- the next of some ticks is as far away as the ticks are apart
 pub apart-within : ApartAreWithin
@@ -64,8 +67,8 @@ apart-within gap start [] apart x t from = λ is. cc
 apart-within gap start (c ∷ ticks) apart x t from =
     let first : c ≤ start + gap = apart.0 in
     tick_cases c x (λ b. (if b then Some c else first_tick_from ticks x) ≡ Some t → t ≤ x + gap)
-        (λ before. apart-within gap (c + 1) ticks apart.1 x t (omega (arith, before)))
-        (λ after is. let same : c ≡ t = cc in omega (arith, same, first, from))
+    (λ before. apart-within gap (c + 1) ticks apart.1 x t (omega (arith, before)))
+    (λ after is. let same : c ≡ t = cc in omega (arith, same, first, from))
 
 not-empty : (xs ys : List AttemptedValue) (a : AttemptedValue) → xs ++ a ∷ ys ≡ [] → ⊥
 not-empty [] ys a is = cc
@@ -91,7 +94,7 @@ abbrev pub IsDueAfter : Driver → JobRecord → History → ℕ → Type 0
 IsDueAfter d job [] x = x ≡ job.start
 IsDueAfter d job (q ∷ h) x =
     IsRunOf d job (q ∷ h) ×
-        (LetsBegin (answer_of job.schedule (q ∷ h)).decision x × (job.start ≤ x))
+    (LetsBegin (answer_of job.schedule (q ∷ h)).decision x × (job.start ≤ x))
 
 -- no attempt is due before the start
 pub due-from : (d : Driver) (job : JobRecord) (h : History) (x : ℕ) → IsDueAfter d job h x →
@@ -108,19 +111,19 @@ run-tick d job p (q ∷ h) driven = driven.0
 lets-by : (d : Driver) (s : Schedule) (h : History) (e : Decision) (x l m : ℕ) →
     IsNeverEarly d.waits → last_moment h ≤ max_tick → (answer_of s h).decision ≡ e → LetsBegin e x →
     l ≤ d.waits.late → x + l ≤ max x max_tick → IsAttempt d (x + l) m →
-        LetsEndAt d (last_moment h) (answer_of s h).decision m
+    LetsEndAt d (last_moment h) (answer_of s h).decision m
 lets-by d s h Stop x l m never tick is lets late by attempt = absurd lets
 lets-by d s h (Next y) x l m never tick is lets late by attempt =
     lets-late d s h y l m never tick is late (omega (arith, by, lets))
-        (subst (λ z. IsAttempt d (z + l) m) (sym lets) attempt)
+    (subst (λ z. IsAttempt d (z + l) m) (sym lets) attempt)
 
 lets-end : (d : Driver) (job : JobRecord) (q : ℕ × ℕ) (h : History) (x l m : ℕ) →
     IsNeverEarly d.waits → IsDueAfter d job (q ∷ h) x →
     l ≤ d.waits.late → x + l ≤ max x max_tick → IsAttempt d (x + l) m →
-        LetsEndAt d q.0 (answer_of job.schedule (q ∷ h)).decision m
+    LetsEndAt d q.0 (answer_of job.schedule (q ∷ h)).decision m
 lets-end d job q h x l m never due late by attempt =
     lets-by d job.schedule (q ∷ h) (answer_of job.schedule (q ∷ h)).decision x l m never
-        (run-tick d job q h due.0.driven).tick refl due.1.0 late by attempt
+    (run-tick d job q h due.0.driven).tick refl due.1.0 late by attempt
 
 -- An attempt that is due ends, by the moment at which the first one began.
 pub record EndsNext (d : Driver) (job : JobRecord) (h : History) (m : ℕ) : Type 0 where
@@ -135,8 +138,12 @@ next-ends d job [] x l m never due late by attempt =
     record { begun = x + l; soon = omega (arith, due, late); ends = attempt }
 next-ends d job (q ∷ h) x l m never due late by attempt =
     let run : IsRunOf d job (q ∷ h) = due.0 in
-    record { begun = run.begun; soon = run.soon; ends =
-        (run.driven, run.first, lets-end d job q h x l m never due late by attempt) }
+    record {
+      begun = run.begun;
+      soon = run.soon;
+      ends =
+          (run.driven, run.first, lets-end d job q h x l m never due late by attempt);
+    }
 
 -- a step after the attempt that is due makes a longer history
 driven-step : (d : Driver) (job : JobRecord) (h : History) (x l : ℕ) (p : ℕ × ℕ) →
@@ -216,15 +223,15 @@ module _ (d : Driver) (job : JobRecord) (script : IsScript job.script)
   -- an attempt that is due at x takes as long as its entry says; with a most, it begins soon enough
   pub attempt-from : (h : History) (x s : ℕ) → x ≤ s →
       ((k : ℕ) → d.most ≡ Some k → s ≤ x + d.waits.late) →
-          IsAttempt d (x + lag d x s) (s + (beat_after job h).ms)
+      IsAttempt d (x + lag d x s) (s + (beat_after job h).ms)
   attempt-from h x s from begins = record {
     least = (
         let least : shortest d ≤ (beat_after job h).ms = entry-has (λ beat. shortest d ≤ beat.ms) job.script (length h + 1) script takes.least in
         omega (arith, from, least));
     most = λ k e. (
         let most : (beat_after job h).ms + d.waits.late ≤ k =
-            entry-has (λ beat. beat.ms + d.waits.late ≤ k) job.script (length h + 1) script
-                (takes.most k e).0 in
+        entry-has (λ beat. beat.ms + d.waits.late ≤ k) job.script (length h + 1) script
+        (takes.most k e).0 in
         let at = begins k e in
         omega (arith, at, most));
   }
@@ -234,14 +241,14 @@ module _ (d : Driver) (job : JobRecord) (script : IsScript job.script)
       IsAttempt d (x + lag d x s) (s + (beat_after job h).ms)
   attempt-of h x s from begun =
       attempt-from h x s (first_tick_from-from ticks x s begun)
-          (λ k e. (takes.most k e).1 x s from begun)
+      (λ k e. (takes.most k e).1 x s from begun)
 
   -- it begins in time for a driver
   pub lag-by : (x s : ℕ) → first_tick_from ticks x ≡ Some s → x + lag d x s ≤ max x max_tick
   lag-by x s begun =
       let from : x ≤ s = first_tick_from-from ticks x s begun in
       let tick : s < max_tick + 1 =
-          first_tick_from-before ticks (max_tick + 1) x s clock.bounded begun in
+      first_tick_from-before ticks (max_tick + 1) x s clock.bounded begun in
       omega (arith, from, tick)
 
   -- it ends at the first tick that is late enough
@@ -256,11 +263,11 @@ module _ (d : Driver) (job : JobRecord) (script : IsScript job.script)
         least = (let least = attempt.least in omega (arith, least, due, late, small));
         most = λ k e. (
             let most : (beat_after job h).ms + d.waits.late ≤ k =
-                entry-has (λ beat. beat.ms + d.waits.late ≤ k) job.script (length h + 1) script
-                    (takes.most k e).0 in
+            entry-has (λ beat. beat.ms + d.waits.late ≤ k) job.script (length h + 1) script
+            (takes.most k e).0 in
             let soon : s ≤ x + d.waits.late = (takes.most k e).1 x s start begun in
             let now : at ≤ w + d.waits.late =
-                (takes.most k e).1 w at (omega (arith, due, late, small, from, start)) ended in
+            (takes.most k e).1 w at (omega (arith, due, late, small, from, start)) ended in
             omega (arith, most, due, now, soon, from));
       }
 
@@ -275,9 +282,9 @@ module _ (d : Driver) (job : JobRecord) (script : IsScript job.script)
       entry-has (λ beat. number_of beat.outcome ≤ max_moment) job.script (length h + 1) script inputs in
       let same : number_of end.outcome ≡ number_of (beat_after job h).outcome = ap number_of own in
       driven-step d job h x (lag d x s) (pair_of end) takes.waits due
-          (record { tick = omega (arith, tick); input = omega (arith, input, same) })
+      (record { tick = omega (arith, tick); input = omega (arith, input, same) })
       (omega arith) (lag-by x s begun)
-          (attempt-ends h x s w end.at (due-from d job h x due) begun refl ended tick)
+      (attempt-ends h x s w end.at (due-from d job h x due) begun refl ended tick)
 
   module _ (due : Option ℕ) (ending : Option Ending) where
     -- an attempt that follows others after history h: when it is due, after which history
@@ -358,4 +365,4 @@ module _ (d : Driver) (job : JobRecord) (script : IsScript job.script)
   pub histories-driven : (h : History) → IsHistoryOf job ticks h → IsDriven job.schedule d h
   histories-driven h of =
       subst (IsDriven job.schedule d) (sym of.is)
-          (known-end of.earlier of.end of.ends).driven.driven
+      (known-end of.earlier of.end of.ends).driven.driven

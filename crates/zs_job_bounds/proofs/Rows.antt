@@ -35,8 +35,15 @@ abbrev backoff : Schedule
 backoff = two both (leaf (exponential 100 2)) (leaf (recurs 2))
 
 -- so at least and at most 3 attempts, no wait over 200 ms, and 300 ms in all
-three_attempts : bounds_of backoff exact_driver 20 ≡ record { seen = 3; least = 3; most =
-    Some 3; longest = 200; total = Some 300; longest_run = None }
+three_attempts : bounds_of backoff exact_driver 20 ≡ record {
+  seen = 3;
+  least = 3;
+  most =
+      Some 3;
+  longest = 200;
+  total = Some 300;
+  longest_run = None;
+}
 three_attempts = refl
 
 abbrev retry : List Beat → JobRecord
@@ -119,8 +126,8 @@ fails_thrice-within : IsWithin (bounds_of backoff exact_driver 20)
     (timeline_of failing busy).attempts
 fails_thrice-within =
     within-bounds exact_driver failing (bounds_of backoff exact_driver 20)
-        (record { least = refl; most = omega arith })
-            (bounds_of-promises backoff exact_driver 20 refl) fails-script fails-inputs
+    (record { least = refl; most = omega arith })
+    (bounds_of-promises backoff exact_driver 20 refl) fails-script fails-inputs
     busy busy-ticks (takes-any failing busy fails-script)
 
 -- ---- smaller bounds don't hold
@@ -234,8 +241,15 @@ of_3_ms = record {
   waits = record { least_percent = 100; most_percent = 100; asked = 0; late = 2 };
 }
 
-sixteen_ms : bounds_of late.schedule of_3_ms 20 ≡ record { seen = 3; least = 3; most =
-    Some 3; longest = 4; total = Some 7; longest_run = Some 16 }
+sixteen_ms : bounds_of late.schedule of_3_ms 20 ≡ record {
+  seen = 3;
+  least = 3;
+  most =
+      Some 3;
+  longest = 4;
+  total = Some 7;
+  longest_run = Some 16;
+}
 sixteen_ms = refl
 
 late-least : (k : ℕ) (d : Beat) → k < 1 → 1 ≤ (slice_index_or late.script k d).ms
@@ -247,17 +261,37 @@ late-most zero d lt = omega arith
 late-most (suc k) d lt = absurd (omega (arith, lt))
 
 coarse-apart : AreApart 2 1 coarse
-coarse-apart =
-    (omega arith, (omega arith, (omega arith, (omega arith, (omega arith, (omega arith, (omega arith,
-        (omega arith, tt))))))))
+coarse-apart = (
+  omega arith,
+  (
+    omega arith,
+    (
+      omega arith,
+      (
+        omega arith,
+        (
+          omega arith,
+          (
+            omega arith,
+            (
+              omega arith,
+              (omega arith, tt),
+            ),
+          ),
+        ),
+      ),
+    ),
+  ),
+)
 
 -- the job does on this clock what the driver may do
 late-takes : Takes of_3_ms late coarse
 late-takes = record {
   least = late-least;
-  most = λ k is. let three : 3 ≡ k = cc in
-      (subst (λ n. All (λ beat. beat.ms + 2 ≤ n) late.script) three late-most,
-          apart-within 2 1 coarse coarse-apart);
+  most = λ k is. let three : 3 ≡ k = cc in (
+    subst (λ n. All (λ beat. beat.ms + 2 ≤ n) late.script) three late-most,
+    apart-within 2 1 coarse coarse-apart,
+  );
   waits = record { least = refl; most = omega arith };
 }
 
@@ -271,8 +305,15 @@ unfolding timeline_of from from_begin from_wait by_outcome by_answer first_tick_
 late_attempts = refl
 
 no_shorter_late_run : EndsInTime
-    (record { seen = 3; least = 3; most = Some 3; longest = 4; total = Some 7; longest_run =
-        Some 15 }) coarse (1 + 2)
+    (record {
+      seen = 3;
+      least = 3;
+      most = Some 3;
+      longest = 4;
+      total = Some 7;
+      longest_run =
+          Some 15;
+    }) coarse (1 + 2)
     (timeline_of late coarse).attempts (timeline_of late coarse).ending → ⊥
 unfolding timeline_of from from_begin from_wait by_outcome by_answer first_tick_from
 no_shorter_late_run in_time =

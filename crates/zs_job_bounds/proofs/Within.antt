@@ -49,7 +49,7 @@ module _ (a : Driver) (job : JobRecord) (b : Bounds) (never : IsNeverEarly a.wai
       (λ l.
       let last : length (q ∷ h) ≡ k = omega (arith, few, l) in
       absurd (stop-lets (answer_of job.schedule (q ∷ h)).decision x
-          (promises.done k is (q ∷ h) due.0.driven last) due.1.0))
+      (promises.done k is (q ∷ h) due.0.driven last) due.1.0))
 
   -- the waits up to a history are within the total
   waits-fit : (t : ℕ) → b.total ≡ Some t → (h : History) (x : ℕ) → IsDueAfter a job h x → total_wait job.schedule h ≤ t
@@ -78,8 +78,8 @@ module _ (a : Driver) (job : JobRecord) (b : Bounds) (never : IsNeverEarly a.wai
     waits-by t is later h end Stop driven decides stepped again goes =
         let own : end_wait (Some end) ≡ last_wait job.schedule (pair_of end ∷ h) = ap (step_wait end.at) stepped in
         let all : last_wait job.schedule (pair_of end ∷ h) + total_wait job.schedule h ≤ t =
-            (bounds-waits job.schedule a b never promises).total t is (pair_of end ∷ h)
-                driven.driven in
+        (bounds-waits job.schedule a b never promises).total t is (pair_of end ∷ h)
+        driven.driven in
         let none : all_waits later ≡ 0 = ap all_waits goes.0 in omega (arith, own, all, none)
     waits-by t is later h end (Next y) driven decides stepped again goes =
         let own : end_wait (Some end) ≡ last_wait job.schedule (pair_of end ∷ h) = ap (step_wait end.at) stepped in
@@ -164,12 +164,12 @@ module _ (a : Driver) (job : JobRecord) (b : Bounds) (never : IsNeverEarly a.wai
       over-end later h x s None begins begun again ends =
           let m : ℕ = s + (beat_after job h).ms in
           let attempt =
-              attempt-of a job script inputs ticks clock takes h x s (due-from a job h x begins)
-                  begun in
+          attempt-of a job script inputs ticks clock takes h x s (due-from a job h x begins)
+          begun in
           let by = lag-by a job script inputs ticks clock takes x s begun in
           let in_time = ends-soon h x (lag a x s) m begins (omega arith) by attempt in
           absurd (has-tick (saturated m) (job.start + a.waits.late + r) t tick
-              (omega (arith, in_time)) ends.0)
+          (omega (arith, in_time)) ends.0)
       over-end later h x s (Some end) begins begun again ends =
           let driven = driven-end a job script inputs ticks clock takes h x s end begins begun ends.0 ends.1 in
           over-asked later h end (ending_by_outcome job.mode end.outcome) driven again ends.2
@@ -180,11 +180,11 @@ module _ (a : Driver) (job : JobRecord) (b : Bounds) (never : IsNeverEarly a.wai
       all-over [] h x begins follows =
           let m : ℕ = x + (beat_after job h).ms in
           let attempt =
-              attempt-from a job script inputs ticks clock takes h x x (omega arith)
-                  (λ k e. omega arith) in
+          attempt-from a job script inputs ticks clock takes h x x (omega arith)
+          (λ k e. omega arith) in
           let in_time = ends-soon h x (lag a x x) m begins (omega arith) (omega arith) attempt in
           absurd (has-tick x (job.start + a.waits.late + r) t tick (omega (arith, in_time))
-              follows.0)
+          follows.0)
       all-over (c ∷ later) h x begins follows = over-end later h x c.begun c.ended begins follows.0 (all-over later) follows.1
 
   -- ---- the timeline
@@ -202,8 +202,8 @@ module _ (a : Driver) (job : JobRecord) (b : Bounds) (never : IsNeverEarly a.wai
         let stop : (answer_of job.schedule (history_at earlier end)).decision ≡ Stop = ap (λ (y : Answer). y.decision) (sym is) in
         lt_cases (length (history_at earlier end)) b.least (λ _. b.least ≤ length earlier + 1)
         (λ l. absurd
-            (stop-next (answer_of job.schedule (history_at earlier end)).decision stop
-                (promises.least (history_at earlier end) known.driven.driven l)))
+        (stop-next (answer_of job.schedule (history_at earlier end)).decision stop
+        (promises.least (history_at earlier end) known.driven.driven l)))
         (λ l. let count = known.count in omega (arith, count, l))
 
     -- the next attempt is due at most `longest` later
@@ -216,7 +216,7 @@ module _ (a : Driver) (job : JobRecord) (b : Bounds) (never : IsNeverEarly a.wai
         let count : length (history_at earlier end) ≡ length earlier + 1 = known.count in
         wait-within end.at x b.longest (answer_of job.schedule (history_at earlier end)).decision next
         ((bounds-waits job.schedule a b never promises).longest (history_at earlier end)
-            known.driven.driven (omega (arith, count, seen)))
+        known.driven.driven (omega (arith, count, seen)))
 
     pub within-bounds : IsWithin b attempts
     within-bounds =

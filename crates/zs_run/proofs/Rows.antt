@@ -43,46 +43,46 @@ out_of_range = Some (faults.Range None)
 -- texts, each with its fault as a plan, if it has one
 abbrev documents : List (List ℕ × Option PlanFault)
 documents =
-    (codes "", no_json) -- an empty text
-    ∷ (codes "{\"horizon\":1000,\"jobs\":[]}x", no_json) -- a text that goes on
-    ∷ (codes "{\"horizon\":1", no_json) -- a text cut short
-    ∷ (codes "[]", wrong_plan) -- a document that is a list
-    ∷ (codes "null", wrong_plan) -- a document that is null
-    ∷ (codes "{\"jobs\":[]}", wrong_plan) -- no horizon
-    ∷ (codes "{\"horizon\":1000}", wrong_plan) -- no list of jobs
-    ∷ (codes "{\"horizon\":1000,\"jobs\":{}}", wrong_plan) -- jobs that are an object
-    ∷ (codes "{\"horizon\":1.5,\"jobs\":[]}", wrong_plan) -- half a millisecond
-    ∷ (codes "{\"horizon\":1e3,\"jobs\":[]}", wrong_plan) -- an exponent
-    ∷ (codes "{\"horizon\":-0,\"jobs\":[]}", wrong_plan) -- minus zero
-    ∷ (codes "{\"horizon\":18446744073709551616,\"jobs\":[]}", wrong_plan) -- a number past 64 bits
-    ∷ (codes "{\"horizon\":null,\"jobs\":[]}", wrong_plan) -- a horizon of null
-    ∷ (codes "{\"horizon\":1,\"ticks\":[1],\"jobs\":[]}", wrong_plan) -- horizon beside ticks
+    (codes "", no_json)  -- an empty text
+    ∷ (codes "{\"horizon\":1000,\"jobs\":[]}x", no_json)  -- a text that goes on
+    ∷ (codes "{\"horizon\":1", no_json)  -- a text cut short
+    ∷ (codes "[]", wrong_plan)  -- a document that is a list
+    ∷ (codes "null", wrong_plan)  -- a document that is null
+    ∷ (codes "{\"jobs\":[]}", wrong_plan)  -- no horizon
+    ∷ (codes "{\"horizon\":1000}", wrong_plan)  -- no list of jobs
+    ∷ (codes "{\"horizon\":1000,\"jobs\":{}}", wrong_plan)  -- jobs that are an object
+    ∷ (codes "{\"horizon\":1.5,\"jobs\":[]}", wrong_plan)  -- half a millisecond
+    ∷ (codes "{\"horizon\":1e3,\"jobs\":[]}", wrong_plan)  -- an exponent
+    ∷ (codes "{\"horizon\":-0,\"jobs\":[]}", wrong_plan)  -- minus zero
+    ∷ (codes "{\"horizon\":18446744073709551616,\"jobs\":[]}", wrong_plan)  -- a number past 64 bits
+    ∷ (codes "{\"horizon\":null,\"jobs\":[]}", wrong_plan)  -- a horizon of null
+    ∷ (codes "{\"horizon\":1,\"ticks\":[1],\"jobs\":[]}", wrong_plan)  -- horizon beside ticks
     -- a horizon of null beside ticks
     ∷ (codes "{\"horizon\":null,\"ticks\":[1],\"jobs\":[]}", wrong_plan)
-    ∷ (codes "{\"ticks\":[1.5],\"jobs\":[]}", wrong_plan) -- half a tick
-    ∷ (codes "{\"ticks\":1,\"jobs\":[]}", wrong_plan) -- ticks that are a number
-    ∷ (codes "{\"horizon\":1,\"workers\":null,\"jobs\":[]}", wrong_plan) -- workers of null
-    ∷ (codes "{\"horizon\":1000,\"x\":1}", wrong_plan) -- shape before an unknown key
+    ∷ (codes "{\"ticks\":[1.5],\"jobs\":[]}", wrong_plan)  -- half a tick
+    ∷ (codes "{\"ticks\":1,\"jobs\":[]}", wrong_plan)  -- ticks that are a number
+    ∷ (codes "{\"horizon\":1,\"workers\":null,\"jobs\":[]}", wrong_plan)  -- workers of null
+    ∷ (codes "{\"horizon\":1000,\"x\":1}", wrong_plan)  -- shape before an unknown key
     -- an unknown key before range
     ∷ (codes "{\"horizon\":1000000000000000,\"jobs\":[],\"start\":1}", unknown_plan_key)
     -- a key of a job in the document
     ∷ (codes "{\"horizon\":1,\"jobs\":[],\"name\":\"a\"}", unknown_plan_key)
-    ∷ (codes "{\"horizon\":999999999999999,\"jobs\":[]}", None) -- the greatest horizon
-    ∷ (codes "{\"horizon\":1000000000000000,\"jobs\":[]}", out_of_range) -- a greater horizon
-    ∷ (codes "{\"horizon\":1,\"workers\":0,\"jobs\":[]}", out_of_range) -- no worker
-    ∷ (codes "{\"horizon\":1,\"workers\":64,\"jobs\":[]}", None) -- most workers
-    ∷ (codes "{\"horizon\":1,\"workers\":65,\"jobs\":[]}", out_of_range) -- too many workers
-    ∷ (codes "{\"horizon\":1,\"grain\":0,\"jobs\":[]}", out_of_range) -- no grain
-    ∷ (codes "{\"horizon\":1,\"grain\":10000,\"jobs\":[]}", None) -- the coarsest grain
-    ∷ (codes "{\"horizon\":1,\"grain\":10001,\"jobs\":[]}", out_of_range) -- too coarse a grain
-    ∷ (codes "{\"ticks\":[],\"jobs\":[]}", out_of_range) -- no tick
-    ∷ (codes "{\"ticks\":[5,5],\"jobs\":[]}", out_of_range) -- a tick twice
-    ∷ (codes "{\"ticks\":[1000000000000000],\"jobs\":[]}", out_of_range) -- a tick past the limit
-    ∷ (codes "{\"ticks\":[0,999999999999999],\"jobs\":[]}", None) -- a tick at the limit
+    ∷ (codes "{\"horizon\":999999999999999,\"jobs\":[]}", None)  -- the greatest horizon
+    ∷ (codes "{\"horizon\":1000000000000000,\"jobs\":[]}", out_of_range)  -- a greater horizon
+    ∷ (codes "{\"horizon\":1,\"workers\":0,\"jobs\":[]}", out_of_range)  -- no worker
+    ∷ (codes "{\"horizon\":1,\"workers\":64,\"jobs\":[]}", None)  -- most workers
+    ∷ (codes "{\"horizon\":1,\"workers\":65,\"jobs\":[]}", out_of_range)  -- too many workers
+    ∷ (codes "{\"horizon\":1,\"grain\":0,\"jobs\":[]}", out_of_range)  -- no grain
+    ∷ (codes "{\"horizon\":1,\"grain\":10000,\"jobs\":[]}", None)  -- the coarsest grain
+    ∷ (codes "{\"horizon\":1,\"grain\":10001,\"jobs\":[]}", out_of_range)  -- too coarse a grain
+    ∷ (codes "{\"ticks\":[],\"jobs\":[]}", out_of_range)  -- no tick
+    ∷ (codes "{\"ticks\":[5,5],\"jobs\":[]}", out_of_range)  -- a tick twice
+    ∷ (codes "{\"ticks\":[1000000000000000],\"jobs\":[]}", out_of_range)  -- a tick past the limit
+    ∷ (codes "{\"ticks\":[0,999999999999999],\"jobs\":[]}", None)  -- a tick at the limit
     -- a range before a jobs fault
     ∷ (codes "{\"horizon\":1000,\"workers\":65,\"jobs\":[1]}", out_of_range)
-    ∷ (codes "{\"horizon\":1000,\"jobs\":[],\"horizon\":1.5}", wrong_plan) -- a key twice
-    ∷ (codes "{\"hori\\u007aon\":1000,\"jobs\":[]}", None) -- an escaped key
+    ∷ (codes "{\"horizon\":1000,\"jobs\":[],\"horizon\":1.5}", wrong_plan)  -- a key twice
+    ∷ (codes "{\"hori\\u007aon\":1000,\"jobs\":[]}", None)  -- an escaped key
     -- a job that is a number
     ∷ (codes "{\"horizon\":1000,\"jobs\":[1]}", Some (faults.Shape (Some 0)))
     ∷ []
@@ -143,57 +143,65 @@ as_64 = codes "aaaaaaaaaaaaaaaaaaaaaaaaaaaaaaaaaaaaaaaaaaaaaaaaaaaaaaaaaaaaaaaa"
 abbrev lists_of_jobs : List (List ℕ × Option PlanFault)
 lists_of_jobs =
     -- a job without a name
-    (codes "{\"mode\":\"retry\",\"schedule\":\"recurs(3)\",\"script\":" ++ failing ++ codes ",\"x\":1}",
-        wrong_shape)
+    (
+      codes "{\"mode\":\"retry\",\"schedule\":\"recurs(3)\",\"script\":" ++ failing ++ codes ",\"x\":1}",
+      wrong_shape,
+    )
     -- a mode that is a number
-    ∷ (codes "{\"name\":\"a\",\"mode\":1,\"schedule\":\"recurs(3)\",\"script\":" ++ failing ++ codes "}",
-        wrong_shape)
-    ∷ (with_script (failing ++ codes ",\"start\":\"0\""), wrong_shape) -- a start that is a text
-    ∷ (with_script (failing ++ codes ",\"start\":18446744073709551615"), None) -- the greatest start
-    ∷ (with_script (codes "{}"), wrong_shape) -- a script that is an object
+    ∷ (
+      codes "{\"name\":\"a\",\"mode\":1,\"schedule\":\"recurs(3)\",\"script\":" ++ failing ++ codes "}",
+      wrong_shape,
+    )
+    ∷ (with_script (failing ++ codes ",\"start\":\"0\""), wrong_shape)  -- a start that is a text
+    ∷ (with_script (failing ++ codes ",\"start\":18446744073709551615"), None)  -- the greatest start
+    ∷ (with_script (codes "{}"), wrong_shape)  -- a script that is an object
     -- an entry with both outcomes
     ∷ (with_script (codes "[{\"ms\":5,\"ok\":1,\"err\":2}]"), wrong_shape)
-    ∷ (with_script (codes "[{\"ms\":5}]"), wrong_shape) -- an entry with no outcome
+    ∷ (with_script (codes "[{\"ms\":5}]"), wrong_shape)  -- an entry with no outcome
     -- an entry with a null beside an outcome
     ∷ (with_script (codes "[{\"ms\":5,\"ok\":null,\"err\":1}]"), wrong_shape)
-    ∷ (with_script (codes "[{\"ms\":5,\"ok\":null}]"), wrong_shape) -- an entry with a null outcome
-    ∷ (with_script (codes "[{\"ok\":1}]"), wrong_shape) -- an entry without a duration
-    ∷ (with_script (codes "[{\"ms\":-5,\"ok\":1}]"), wrong_shape) -- an entry below zero
-    ∷ (with_script (codes "[[]]"), wrong_shape) -- an entry that is a list
+    ∷ (with_script (codes "[{\"ms\":5,\"ok\":null}]"), wrong_shape)  -- an entry with a null outcome
+    ∷ (with_script (codes "[{\"ok\":1}]"), wrong_shape)  -- an entry without a duration
+    ∷ (with_script (codes "[{\"ms\":-5,\"ok\":1}]"), wrong_shape)  -- an entry below zero
+    ∷ (with_script (codes "[[]]"), wrong_shape)  -- an entry that is a list
     -- the shape of an entry before an unknown key
     ∷ (with_script (codes "[{\"ms\":5}],\"x\":1"), wrong_shape)
-    ∷ (with_script (failing ++ codes ",\"x\":1"), unknown_key) -- an unknown key of a job
+    ∷ (with_script (failing ++ codes ",\"x\":1"), unknown_key)  -- an unknown key of a job
     -- an unknown key of an entry before a mode
     ∷ (with_mode (codes "loop") (codes "[{\"ms\":5,\"ok\":1,\"y\":1}]"), unknown_key)
-    ∷ (with_script (failing ++ codes ",\"ms\":1"), unknown_key) -- a key of an entry in a job
-    ∷ (with_mode (codes "loop") failing, Some (faults.Range (Some 0))) -- an unknown mode
+    ∷ (with_script (failing ++ codes ",\"ms\":1"), unknown_key)  -- a key of an entry in a job
+    ∷ (with_mode (codes "loop") failing, Some (faults.Range (Some 0)))  -- an unknown mode
     -- a mode before a name
     ∷ (job (codes "") (codes "Retry") (codes "recurs(3)") failing, Some (faults.Range (Some 0)))
-    ∷ (with_name (codes ""), Some (faults.Name 0)) -- no name
-    ∷ (with_name (codes "a b"), Some (faults.Name 0)) -- a name with a space
-    ∷ (with_name (codes "A-z_9.x"), None) -- a name of all kinds
-    ∷ (with_name as_64, None) -- a name of 64 bytes
-    ∷ (with_name (codes "a" ++ as_64), Some (faults.Name 0)) -- a name of 65 bytes
+    ∷ (with_name (codes ""), Some (faults.Name 0))  -- no name
+    ∷ (with_name (codes "a b"), Some (faults.Name 0))  -- a name with a space
+    ∷ (with_name (codes "A-z_9.x"), None)  -- a name of all kinds
+    ∷ (with_name as_64, None)  -- a name of 64 bytes
+    ∷ (with_name (codes "a" ++ as_64), Some (faults.Name 0))  -- a name of 65 bytes
     -- a name before a schedule
     ∷ (job (codes "") (codes "retry") (codes "x") failing, Some (faults.Name 0))
-    ∷ (right_job ++ codes "," ++ right_job, Some (faults.SameName 1)) -- a name twice
+    ∷ (right_job ++ codes "," ++ right_job, Some (faults.SameName 1))  -- a name twice
     -- a name twice before a schedule
     ∷ (right_job ++ codes "," ++ with_schedule (codes "x"), Some (faults.SameName 1))
     -- a fault of an earlier job
     ∷ (with_script (codes "[]") ++ codes "," ++ right_job, Some (faults.Script 0 scripts.Empty))
     -- a schedule before a script
-    ∷ (job (codes "a") (codes "retry") (codes "") (codes "[]"),
-        Some (faults.Schedule 0 (terms.NoTerm 0)))
+    ∷ (
+      job (codes "a") (codes "retry") (codes "") (codes "[]"),
+      Some (faults.Schedule 0 (terms.NoTerm 0)),
+    )
     -- a schedule without a kind
     ∷ (with_schedule (codes "recurs(1).map(_1)"), Some (faults.Schedule 0 terms.NoKind))
     -- a schedule with an empty window
     ∷ (with_schedule (codes "windowed(0)"), Some (faults.Schedule 0 terms.BadWindow))
     -- a schedule with a factor of zero
     ∷ (with_schedule (codes "exponential(1, 0)"), Some (faults.Schedule 0 terms.BadFactor))
-    ∷ (with_script (codes "[]"), Some (faults.Script 0 scripts.Empty)) -- no entry
+    ∷ (with_script (codes "[]"), Some (faults.Script 0 scripts.Empty))  -- no entry
     -- an entry of no time
-    ∷ (with_script (codes "[{\"ms\":1,\"ok\":1},{\"ms\":0,\"ok\":1}]"),
-        Some (faults.Script 0 scripts.ZeroMs))
+    ∷ (
+      with_script (codes "[{\"ms\":1,\"ok\":1},{\"ms\":0,\"ok\":1}]"),
+      Some (faults.Script 0 scripts.ZeroMs),
+    )
     ∷ []
 
 lists_of_jobs_have_their_faults : map (λ row. fault_of_jobs row.0) lists_of_jobs ≡ map (λ row. row.1) lists_of_jobs

@@ -24,23 +24,25 @@ test cmp n = record { cmp = cmp; than = n }
 -- texts, each with its schedule or its fault
 abbrev verdicts : List (List ℕ × Result Schedule TermFault)
 verdicts =
-    (codes "", Err (NoTerm 0)) -- empty text
-    ∷ (codes "(recurs(1) && recurs(2)", Err (NoTerm 23)) -- unclosed
-    ∷ (codes "recurs(1) && recurs(2)", Err (NoTerm 10)) -- without parentheses
-    ∷ (codes "(recurs(1) && recurs(2) && recurs(3))", Err (NoTerm 24)) -- three parts
-    ∷ (codes "recurs(01)", Err (NoTerm 7)) -- padded number
-    ∷ (codes "recurs(18446744073709551616)", Err (BadNumber 7)) -- large number
-    ∷ (codes "recurs(18446744073709551615)", Ok (leaf (recurs max_moment))) -- greatest number
-    ∷ (codes "exponential(1, 0)", Err BadFactor) -- zero factor
-    ∷ (codes "recurs(1).map(_1)", Err NoKind) -- misfit
-    ∷ (codes "windowed(0)", Err BadWindow) -- zero window
-    ∷ (codes "windowed(0).map(_1)", Err NoKind) -- kind before window
-    ∷ (codes "(exponential(1, 0) && windowed(0))", Err BadFactor) -- factor before window
-    ∷ (codes "recurs(1).resetWhen(_1 = 0)", Err NoKind) -- reset misfit
+    (codes "", Err (NoTerm 0))  -- empty text
+    ∷ (codes "(recurs(1) && recurs(2)", Err (NoTerm 23))  -- unclosed
+    ∷ (codes "recurs(1) && recurs(2)", Err (NoTerm 10))  -- without parentheses
+    ∷ (codes "(recurs(1) && recurs(2) && recurs(3))", Err (NoTerm 24))  -- three parts
+    ∷ (codes "recurs(01)", Err (NoTerm 7))  -- padded number
+    ∷ (codes "recurs(18446744073709551616)", Err (BadNumber 7))  -- large number
+    ∷ (codes "recurs(18446744073709551615)", Ok (leaf (recurs max_moment)))  -- greatest number
+    ∷ (codes "exponential(1, 0)", Err BadFactor)  -- zero factor
+    ∷ (codes "recurs(1).map(_1)", Err NoKind)  -- misfit
+    ∷ (codes "windowed(0)", Err BadWindow)  -- zero window
+    ∷ (codes "windowed(0).map(_1)", Err NoKind)  -- kind before window
+    ∷ (codes "(exponential(1, 0) && windowed(0))", Err BadFactor)  -- factor before window
+    ∷ (codes "recurs(1).resetWhen(_1 = 0)", Err NoKind)  -- reset misfit
     -- spaces
-    ∷ (codes "( recurs(3)&&spaced( 5 ) ).map( _1 )",
-        Ok (over (two both (leaf (recurs 3)) (leaf (spaced 5))) (mapped First)))
-    ∷ (codes "exponential(10)", Ok (leaf (exponential 10 2))) -- doubling
+    ∷ (
+      codes "( recurs(3)&&spaced( 5 ) ).map( _1 )",
+      Ok (over (two both (leaf (recurs 3)) (leaf (spaced 5))) (mapped First)),
+    )
+    ∷ (codes "exponential(10)", Ok (leaf (exponential 10 2)))  -- doubling
     -- reset
     ∷ (codes "identity.resetWhen(>= 5)", Ok (over (leaf identity) (reset_when Whole (test Ge 5))))
     ∷ []
@@ -53,14 +55,18 @@ each_has_its_verdict = refl
 abbrev spellings : List (Schedule × List ℕ)
 spellings =
     -- spelled with spaces
-    (over (two both (leaf (recurs 3)) (leaf (spaced 5))) (mapped First),
-        codes "(recurs(3) && spaced(5)).map(_1)")
-    ∷ (leaf (exponential 10 2), codes "exponential(10, 2)") -- spelled with factor
+    (
+      over (two both (leaf (recurs 3)) (leaf (spaced 5))) (mapped First),
+      codes "(recurs(3) && spaced(5)).map(_1)",
+    )
+    ∷ (leaf (exponential 10 2), codes "exponential(10, 2)")  -- spelled with factor
     -- spelled test
     ∷ (over (leaf identity) (while_output Whole (test Lt 5)), codes "identity.whileOutput(< 5)")
     -- spelled reset
-    ∷ (over (two either (leaf (linear 3)) (leaf (windowed 4))) (reset_when Whole (test Eq 0)),
-        codes "(linear(3) || windowed(4)).resetWhen(= 0)")
+    ∷ (
+      over (two either (leaf (linear 3)) (leaf (windowed 4))) (reset_when Whole (test Eq 0)),
+      codes "(linear(3) || windowed(4)).resetWhen(= 0)",
+    )
     ∷ []
 
 each_is_spelled_so : map (λ row. canonical_text row.0) spellings ≡ map (λ row. row.1) spellings

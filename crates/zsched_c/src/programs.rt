@@ -93,12 +93,7 @@ pub extern "C" fn zs_program_step(
 /// bounds of its schedule say, whatever its clock does. `begin` is 0 unless 0 is returned. After an
 /// error `state` is unchanged. The call allocates no memory.
 #[unsafe(no_mangle)]
-pub extern "C" fn zs_plan(
-    program: &[u64],
-    state: &mut [u64],
-    turn: &Turn,
-    begin: &mut u64,
-) -> u32
+pub extern "C" fn zs_plan(program: &[u64], state: &mut [u64], turn: &Turn, begin: &mut u64) -> u32
     ensures planned { result ≤ 1 → (t : Schedule) → IsProgram program.now t
         → IsTurnPlanned t turn.now state.old state.new result begin.new }
     ensures fair { result ≡ 0 → (t : Schedule) (h : History) (planned : ℕ) → IsProgram program.now t
