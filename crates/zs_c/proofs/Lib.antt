@@ -1,4 +1,3 @@
-pub mod SeenPairs
 pub mod Rooms
 pub mod Leaves
 pub mod Nodes

@@ -20,7 +20,7 @@ written_at-twice (suc at) x y (b ∷ room) =
     ap (λ n. written_at n y (b ∷ written_at at x room)) e ∙ ap (λ r. b ∷ r) (written_at-twice at x y room)
 
 -- one more text, from the end of the texts before it on
-next-written : (at n : ℕ) (x y r s t : List ℕ) → s ≡ written_at at x r → n ≡ at + length x → t ≡ written_at n y s → t ≡ written_at at (x ++ y) r
+pub next-written : (at n : ℕ) (x y r s t : List ℕ) → s ≡ written_at at x r → n ≡ at + length x → t ≡ written_at n y s → t ≡ written_at at (x ++ y) r
 next-written at n x y r s t first ends second =
     second ∙ ap (λ k. written_at k y s) ends ∙ ap (λ w. written_at (at + length x) y w) first ∙ written_at-twice at x y r
 

@@ -9,6 +9,7 @@ use Rattle.zs_c.specs.Plan.{moment_of, plan_of}
 abbrev ran : ℕ → ℕ → Turn
 ran began ended =
     record {
+      size = 56;
       began = began;
       ended = ended;
       input = 7;
@@ -22,6 +23,7 @@ ran began ended =
 abbrev asked : ℕ → ℕ → Turn
 asked least longest =
     record {
+      size = 56;
       began = 0;
       ended = 5900000;
       input = 7;
@@ -34,6 +36,7 @@ asked least longest =
 abbrev drawn : ℕ → ℕ → Turn
 drawn percent draw =
     record {
+      size = 56;
       began = 0;
       ended = 5900000;
       input = 7;

@@ -9,27 +9,27 @@ use Rattle.zs_step.specs.declared.decision.Decision.TheVariants.{Stop, Next}
 use Rattle.zs_step.specs.History.{History, last_moment}
 use Rattle.zs_step.specs.Answer.{answer_of}
 use Rattle.zs_c.specs.declared.program.denial.Denial.{Denial}
-use Rattle.zs_c.specs.declared.program.denial.Denial.TheVariants.{NoProgram, NoRoom, OtherState, Falls}
-use Rattle.zs_c.specs.declared.reply.Reply.{Reply}
+use Rattle.zs_c.specs.declared.program.denial.Denial.TheVariants.{NoStep, Falls, NoRoom, NoProgram, OtherState, OtherSize}
 use Rattle.zs_c.specs.declared.turn.Turn.{Turn}
 use Rattle.zs_c.specs.Code.{held_of, held_size}
 use Rattle.zs_c.specs.Numbers.{decision_number, next_moment}
-use Rattle.zs_c.specs.Plan.{moment_of, begin_of, plan_of, plan_number, plan_begin, plan_after, planned_after, step_of, IsFair, BeginsFairly, TellsPlan, IsTurnPlanned}
+use Rattle.zs_c.specs.Plan.{moment_of, begin_of, plan_of, plan_number, plan_begin, plan_after, planned_after, step_of, IsFair, BeginsFairly, TellsPlan, IsTurnPlanned, IsTurnDenied}
 use Rattle.zs_c.specs.Program.{IsProgram, KeepsProgramState}
-use Rattle.zs_c.specs.Programs.{IsDenied, IsProgramStepped, IsStepSafe}
-use Rattle.zs_c.specs.Told.{TellsAnswer}
+use Rattle.zs_c.specs.Programs.{IsProgramStepped, IsStepSafe}
+use Rattle.zs_c.specs.Told.{TellsStep}
 use Rattle.zs_c.proofs.Codes.{held-length}
 use Rattle.zs_c.proofs.Planning.{fair-begin}
 use Rattle.zs_c.proofs.Running.{at-most}
 
--- ---- the plan of a decision, by the number and the moment that a step returns
+-- ---- the plan of a decision
 
--- a decision that is done plans nothing
-pub stop-plan : (turn : Turn) (m number next : ℕ) (e : Decision) → number ≡ 1
-    → number ≡ decision_number e → next ≡ next_moment e
-    → plan_of turn m e ≡ None
-stop-plan turn m number next Stop one numbered goes = refl
-stop-plan turn m number next (Next x) one numbered goes = absurd (omega (arith, one, numbered))
+-- a decision by its number and its next moment
+same-decision : (d e : Decision) → decision_number d ≡ decision_number e
+    → next_moment d ≡ next_moment e → d ≡ e
+same-decision Stop Stop numbered goes = refl
+same-decision Stop (Next x) numbered goes = absurd (omega (arith, numbered))
+same-decision (Next x) Stop numbered goes = absurd (omega (arith, numbered))
+same-decision (Next x) (Next y) numbered goes = ap (λ (k : ℕ). Next k) goes
 
 -- a begin, or none
 choose-none : (b : Bool) (n m : ℕ) → nat_le n m ≡ b → m < n → (if b then Some n else None) ≡ None
@@ -41,26 +41,19 @@ choose-some true n m is le = refl
 choose-some false n m is le = absurd (grind (arith, nat_tests))
 
 -- a begin that no clock counts
-pub late-plan : (turn : Turn) (m number next : ℕ) (e : Decision) → (number ≡ 1 → ⊥)
-    → 18446744073709551615 < begin_of turn m next
-    → number ≡ decision_number e → next ≡ next_moment e → plan_of turn m e ≡ None
-late-plan turn m number next Stop other late numbered goes = absurd (other numbered)
-late-plan turn m number next (Next x) other late numbered goes =
+pub late-plan : (turn : Turn) (m x : ℕ) → 18446744073709551615 < begin_of turn m x
+    → plan_of turn m (Next x) ≡ None
+late-plan turn m x late =
     choose-none (nat_le (begin_of turn m x) 18446744073709551615) (begin_of turn m x)
-    18446744073709551615 refl
-    (subst (λ y. 18446744073709551615 < begin_of turn m y) goes late)
+    18446744073709551615 refl late
 
 -- a begin
-pub some-plan : (turn : Turn) (m number next begin : ℕ) (e : Decision) → (number ≡ 1 → ⊥)
-    → begin ≡ begin_of turn m next
-    → begin ≤ 18446744073709551615 → number ≡ decision_number e → next ≡ next_moment e
-    → plan_of turn m e ≡ Some begin
-some-plan turn m number next begin Stop other is counted numbered goes = absurd (other numbered)
-some-plan turn m number next begin (Next x) other is counted numbered goes =
-    let same : begin ≡ begin_of turn m x = is ∙ ap (begin_of turn m) goes in
+pub some-plan : (turn : Turn) (m x begin : ℕ) → begin ≡ begin_of turn m x
+    → begin ≤ 18446744073709551615 → plan_of turn m (Next x) ≡ Some begin
+some-plan turn m x begin is counted =
     choose-some (nat_le (begin_of turn m x) 18446744073709551615) (begin_of turn m x)
     18446744073709551615 refl
-    (subst (λ k. k ≤ 18446744073709551615) same counted) ∙ ap (λ (k : ℕ). Some k) (sym same)
+    (subst (λ k. k ≤ 18446744073709551615) is counted) ∙ ap (λ (k : ℕ). Some k) (sym is)
 
 -- ---- the words of a state, with the planned begin
 
@@ -69,9 +62,9 @@ abbrev pub with_plan : Option ℕ → List ℕ → List ℕ
 with_plan None ws = ws
 with_plan (Some begin) ws = slice_set ws 2 (begin / 1000000)
 
--- the words after the first three are unchanged
+-- the words after the first four are unchanged
 after-plan : (o : Option ℕ) (n : ℕ) (ws : List ℕ)
-    → drop (suc (suc (suc n))) (with_plan o ws) ≡ drop (suc (suc (suc n))) ws
+    → drop (suc (suc (suc (suc n)))) (with_plan o ws) ≡ drop (suc (suc (suc (suc n)))) ws
 after-plan None n ws = refl
 after-plan (Some begin) n [] = refl
 after-plan (Some begin) n (a ∷ []) = refl
@@ -97,7 +90,7 @@ pub plan-safe : (o : Option ℕ) (program old mid : List ℕ) (now : ℕ) → Is
     → IsStepSafe program old (with_plan o mid) now
 plan-safe o program old mid now safe =
     let n = slice_index_or program 3 0 in
-    let e : n + 3 ≡ suc (suc (suc n)) = omega arith in
+    let e : n + 4 ≡ suc (suc (suc (suc n))) = omega arith in
     record {
       check = first-kept o mid ∙ safe.check;
       moment = second-kept o mid ∙ safe.moment;
@@ -120,15 +113,16 @@ planned-word t h planned ws k = ap (λ (v : List ℕ). slice_index_or v 2 0) k.1
 
 -- a step at the moment of a turn
 turn-told : (o : Option ℕ) (t : Schedule) (turn : Turn) (h : History) (planned now : ℕ)
-    (mid room out : List ℕ) (n number begin : ℕ) (r : Reply) →
-    now ≡ moment_of planned turn → TellsAnswer t ((now, turn.input) ∷ h) n r room out →
-    KeepsProgramState t ((now, turn.input) ∷ h) planned mid →
-    ((e : Decision) → n ≡ decision_number e → r.next ≡ next_moment e → plan_of turn now e ≡ o) →
+    (mid : List ℕ) (d : Decision) (count number begin : ℕ) →
+    now ≡ moment_of planned turn
+    → TellsStep t ((now, turn.input) ∷ h) (decision_number d) (next_moment d) count →
+    KeepsProgramState t ((now, turn.input) ∷ h) planned mid → plan_of turn now d ≡ o →
     number ≡ plan_number o → begin ≡ plan_begin o → TellsPlan t h planned turn (with_plan o mid)
     number begin
-turn-told o t turn h planned now mid room out n number begin r is told kept plans numbered begins =
-    let there : plan_of turn now (answer_of t ((now, turn.input) ∷ h)).decision ≡ o =
-    plans (answer_of t ((now, turn.input) ∷ h)).decision told.decision told.next in
+turn-told o t turn h planned now mid d count number begin is told kept plans numbered begins =
+    let e = (answer_of t ((now, turn.input) ∷ h)).decision in
+    let there : plan_of turn now e ≡ o =
+    ap (plan_of turn now) (sym (same-decision d e told.decision told.next)) ∙ plans in
     let plan : plan_after t h planned turn ≡ o =
     subst (λ m. plan_of turn m (answer_of t ((m, turn.input) ∷ h)).decision ≡ o) is there in
     let state : KeepsProgramState t (step_of planned turn ∷ h) planned mid =
@@ -142,19 +136,19 @@ turn-told o t turn h planned now mid room out n number begin r is told kept plan
     }
 
 -- a turn over the words of a state
-pub turn-planned : (o : Option ℕ) (t : Schedule) (turn : Turn) (now : ℕ) (old mid room out : List ℕ)
-    (n number begin : ℕ) (r : Reply) →
-    now ≡ moment_of (slice_index_or old 2 0) turn → IsProgramStepped t old mid now turn.input n r
-    room out →
-    ((e : Decision) → n ≡ decision_number e → r.next ≡ next_moment e → plan_of turn now e ≡ o) →
+pub turn-planned : (o : Option ℕ) (t : Schedule) (turn : Turn) (now : ℕ) (old mid : List ℕ)
+    (d : Decision) (count number begin : ℕ) →
+    now ≡ moment_of (slice_index_or old 2 0) turn
+    → IsProgramStepped t old mid (now, turn.input) (decision_number d) (next_moment d) count
+    → plan_of turn now d ≡ o →
     number ≡ plan_number o → begin ≡ plan_begin o → IsTurnPlanned t turn old (with_plan o mid)
     number begin
-turn-planned o t turn now old mid room out n number begin r is stepped plans numbered begins =
+turn-planned o t turn now old mid d count number begin is stepped plans numbered begins =
     record {
       plan = λ h planned k.
-          turn-told o t turn h planned now mid room out n number begin r
+          turn-told o t turn h planned now mid d count number begin
           (is ∙ ap (λ w. moment_of w turn) (planned-word t h planned old k))
-          (stepped.answer h planned k) (stepped.state h planned k) plans numbered begins;
+          (stepped.tells h planned k) (stepped.state h planned k) plans numbered begins;
       behind = after-plan o (held_size t) mid ∙ stepped.behind;
     }
 
@@ -195,22 +189,21 @@ turn-fair t h planned turn new number begin small told none =
     refl told.numbered told.begins none
 
 -- a turn isn't denied, if the last step was no later than the planned begin
-pub turn-denied : (t : Schedule) (h : History) (planned word : ℕ) (program state : List ℕ)
-    (turn : Turn) (now : ℕ) (why : Denial) → IsProgram program t
+pub turn-denied : (t : Schedule) (h : History) (planned : ℕ) (program state : List ℕ)
+    (turn : Turn) (why : Denial) → IsProgram program t
     → KeepsProgramState t h planned state → last_moment h ≤ planned
-    → word ≡ slice_index_or state 2 0 → word < 18446744073709551616
-    → now ≡ moment_of word turn → IsDenied program state now why → ⊥
-turn-denied t h planned word program state turn now NoProgram is kept after read small moment denied
-    = denied t is
-turn-denied t h planned word program state turn now NoRoom is kept after read small moment denied =
-    let all : length state ≡ suc (suc (suc (length (held_of t h ++ kept.0)))) =
+    → slice_index_or state 2 0 < 18446744073709551616 → turn.size ≡ 56
+    → IsTurnDenied program state turn why → ⊥
+turn-denied t h planned program state turn OtherSize is kept after small sized denied = denied sized
+turn-denied t h planned program state turn NoStep is kept after small sized denied = denied
+turn-denied t h planned program state turn NoProgram is kept after small sized denied = denied t is
+turn-denied t h planned program state turn NoRoom is kept after small sized denied =
+    let all : length state ≡ suc (suc (suc (suc (length (held_of t h ++ kept.0))))) =
     ap (λ (v : List ℕ). length v) kept.1 in
     omega (arith, denied t is, all, length-append (held_of t h) kept.0, held-length t [] h)
-turn-denied t h planned word program state turn now OtherState is kept after read small moment
-    denied =
+turn-denied t h planned program state turn OtherState is kept after small sized denied =
     denied t is (ap (λ (v : List ℕ). slice_index_or v 0 0) kept.1)
-turn-denied t h planned word program state turn now Falls is kept after read small moment denied =
+turn-denied t h planned program state turn Falls is kept after small sized denied =
     let last : slice_index_or state 1 0 ≡ last_moment h =
     ap (λ (v : List ℕ). slice_index_or v 1 0) kept.1 in
-    let same : word ≡ planned = read ∙ planned-word t h planned state kept in
-    omega (arith, denied, last, same, small, moment, after)
+    omega (arith, denied, last, planned-word t h planned state kept, small, after)

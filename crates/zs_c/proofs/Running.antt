@@ -14,10 +14,9 @@ use Rattle.zs_c.specs.declared.program.opening.Opened.{Opened}
 use Rattle.zs_c.specs.Numbers.{decision_number, next_moment}
 use Rattle.zs_c.specs.Code.{IsCode, code_of, held_of, held_size}
 use Rattle.zs_c.specs.Opened.{Opens}
-use Rattle.zs_c.specs.Program.{program_check, KeepsProgramState}
+use Rattle.zs_c.specs.Program.{program_check, has_stepped, KeepsProgramState}
 use Rattle.zs_c.specs.Programs.{IsProgramStepped, IsStepSafe}
 use Rattle.zs_c.specs.Steps.{StepsCode}
-use Rattle.zs_c.specs.Told.{written}
 use Rattle.zs_c.proofs.Codes.{held-length}
 use Rattle.zs_c.proofs.TextBounds.{AllFit, text-bound}
 
@@ -65,141 +64,126 @@ short-text t h code words coded light held code_fits words_fit =
     let second : AllFit (held_of t h) = subst AllFit held (all-fit words words_fit) in
     omega (arith, text-bound t h coded.flat first second, light)
 
--- the words of a state, after its check word, its last moment and its planned begin
-state-arg : (old xs more : List ℕ) (a b c n : ℕ) → old ≡ a ∷ (b ∷ (c ∷ (xs ++ more)))
-    → n ≡ length xs → take (n + 3 - 3) (drop 3 old) ≡ xs
-state-arg old xs more a b c n is sized =
-    let e : n + 3 - 3 ≡ n = omega arith in
-    ap (λ k. take k (drop 3 old)) e ∙ ap (λ (v : List ℕ). take n (drop 3 v)) is ∙ ap
+-- the words of a state, after its check word, its last moment, its planned begin and its flag
+state-arg : (old xs more : List ℕ) (a b c d n : ℕ) → old ≡ a ∷ (b ∷ (c ∷ (d ∷ (xs ++ more))))
+    → n ≡ length xs → take (n + 4 - 4) (drop 4 old) ≡ xs
+state-arg old xs more a b c d n is sized =
+    let e : n + 4 - 4 ≡ n = omega arith in
+    ap (λ k. take k (drop 4 old)) e ∙ ap (λ (v : List ℕ). take n (drop 4 v)) is ∙ ap
     (λ k. take k (xs ++ more)) sized ∙ take-append_seam xs more
 
-state-new : (old xs more ys : List ℕ) (a b c n now : ℕ) → old ≡ a ∷ (b ∷ (c ∷ (xs ++ more)))
-    → n ≡ length xs →
-    slice_set (put_mid 3 (n + 3 - 3) old ys) 1 now ≡ a ∷ (now ∷ (c ∷ (ys ++ more)))
-state-new old xs more ys a b c n now is sized =
-    let e : n + 3 - 3 ≡ n = omega arith in
-    ap (λ k. slice_set (put_mid 3 k old ys) 1 now) e ∙ ap
-    (λ (v : List ℕ). slice_set (put_mid 3 n v ys) 1 now) is
-    ∙ ap (λ (z : List ℕ). a ∷ (now ∷ (c ∷ (ys ++ z))))
+-- the words of a state of n words with others in their place, after a step at a moment
+abbrev stepped_words : ℕ → List ℕ → List ℕ → ℕ → List ℕ
+stepped_words n old ys now = slice_set (slice_set (put_mid 4 (n + 4 - 4) old ys) 1 now) 3 1
+
+state-new : (old xs more ys : List ℕ) (a b c d n now : ℕ)
+    → old ≡ a ∷ (b ∷ (c ∷ (d ∷ (xs ++ more)))) → n ≡ length xs
+    → stepped_words n old ys now ≡ a ∷ (now ∷ (c ∷ (1 ∷ (ys ++ more))))
+state-new old xs more ys a b c d n now is sized =
+    let e : n + 4 - 4 ≡ n = omega arith in
+    ap (λ k. slice_set (slice_set (put_mid 4 k old ys) 1 now) 3 1) e ∙ ap
+    (λ (v : List ℕ). slice_set (slice_set (put_mid 4 n v ys) 1 now) 3 1) is
+    ∙ ap (λ (z : List ℕ). a ∷ (now ∷ (c ∷ (1 ∷ (ys ++ z)))))
     (ap (λ k. drop k (xs ++ more)) sized ∙ drop-append_seam xs more)
 
 -- the words after a state are unchanged
-behind-rest : (n now : ℕ) (old ys : List ℕ) → n + 3 ≤ length old → length ys ≡ n →
-    drop (suc (suc (suc n))) (slice_set (put_mid 3 n old ys) 1 now) ≡ drop (suc (suc (suc n))) old
+behind-rest : (n now : ℕ) (old ys : List ℕ) → n + 4 ≤ length old → length ys ≡ n →
+    drop (suc (suc (suc (suc n)))) (slice_set (slice_set (put_mid 4 n old ys) 1 now) 3 1)
+    ≡ drop (suc (suc (suc (suc n)))) old
 behind-rest n now [] ys fits sized = absurd (omega (arith, fits))
 behind-rest n now (a ∷ []) ys fits sized = absurd (omega (arith, fits))
 behind-rest n now (a ∷ (b ∷ [])) ys fits sized = absurd (omega (arith, fits))
-behind-rest n now (a ∷ (b ∷ (c ∷ rest))) ys fits sized =
+behind-rest n now (a ∷ (b ∷ (c ∷ []))) ys fits sized = absurd (omega (arith, fits))
+behind-rest n now (a ∷ (b ∷ (c ∷ (d ∷ rest)))) ys fits sized =
     ap (λ k. drop k (ys ++ drop n rest)) (sym sized) ∙ drop-append_seam ys (drop n rest)
 
-state-behind : (n now : ℕ) (old ys : List ℕ) → n + 3 ≤ length old → length ys ≡ n →
-    drop (suc (suc (suc n))) (slice_set (put_mid 3 (n + 3 - 3) old ys) 1 now) ≡ drop
-    (suc (suc (suc n))) old
+state-behind : (n now : ℕ) (old ys : List ℕ) → n + 4 ≤ length old → length ys ≡ n →
+    drop (suc (suc (suc (suc n)))) (stepped_words n old ys now)
+    ≡ drop (suc (suc (suc (suc n)))) old
 state-behind n now old ys fits sized =
-    let e : n + 3 - 3 ≡ n = omega arith in
-    ap (λ k. drop (suc (suc (suc n))) (slice_set (put_mid 3 k old ys) 1 now)) e ∙ behind-rest n now
-    old ys fits sized
+    let e : n + 4 - 4 ≡ n = omega arith in
+    ap (λ k. drop (suc (suc (suc (suc n)))) (slice_set (slice_set (put_mid 4 k old ys) 1 now) 3 1))
+    e ∙ behind-rest n now old ys fits sized
 
 -- a step of the words of a state, whatever they are
 safe-words : (program old ys : List ℕ) (n now : ℕ) → n ≡ slice_index_or program 3 0
-    → n + 3 ≤ length old → length ys ≡ n →
-    IsStepSafe program old (slice_set (put_mid 3 (n + 3 - 3) old ys) 1 now) now
+    → n + 4 ≤ length old → length ys ≡ n →
+    IsStepSafe program old (stepped_words n old ys now) now
 safe-words program [] ys n now is fits sized = absurd (omega (arith, fits))
 safe-words program (a ∷ []) ys n now is fits sized = absurd (omega (arith, fits))
 safe-words program (a ∷ (b ∷ [])) ys n now is fits sized = absurd (omega (arith, fits))
-safe-words program (a ∷ (b ∷ (c ∷ rest))) ys n now is fits sized =
-    let e : slice_index_or program 3 0 + 3 ≡ suc (suc (suc n)) = omega (arith, is) in
+safe-words program (a ∷ (b ∷ (c ∷ []))) ys n now is fits sized = absurd (omega (arith, fits))
+safe-words program (a ∷ (b ∷ (c ∷ (d ∷ rest)))) ys n now is fits sized =
+    let all = a ∷ (b ∷ (c ∷ (d ∷ rest))) in
+    let e : slice_index_or program 3 0 + 4 ≡ suc (suc (suc (suc n))) = omega (arith, is) in
     record {
       check = refl;
       moment = refl;
-      behind = ap (λ k. drop k (slice_set (put_mid 3 (n + 3 - 3) (a ∷ (b ∷ (c ∷ rest))) ys) 1 now))
-          e ∙ state-behind n now (a ∷ (b ∷ (c ∷ rest))) ys fits sized
-          ∙ sym (ap (λ k. drop k (a ∷ (b ∷ (c ∷ rest)))) e);
+      behind = ap (λ k. drop k (stepped_words n all ys now)) e
+          ∙ state-behind n now all ys fits sized ∙ sym (ap (λ k. drop k all) e);
     }
 
--- a step of the words of a state, and what it returns
-pub program-stepped : (t : Schedule) (old ys room out : List ℕ)
-    (now input n number next size visits : ℕ) (d : Decision) →
-    n ≡ held_size t → n + 3 ≤ length old → length ys ≡ n →
-    ((h : History) → take (n + 3 - 3) (drop 3 old) ≡ held_of t h → StepsCode t h ys now input d 0
-    visits) →
-    ((g : History) → ys ≡ held_of t g → out ≡ written (output_text (answer_of t g).output) room) →
-    ((g : History) → ys ≡ held_of t g → size ≡ length (output_text (answer_of t g).output)) →
-    number ≡ decision_number d → next ≡ next_moment d →
-    IsProgramStepped t old (slice_set (put_mid 3 (n + 3 - 3) old ys) 1 now) now input number
-    (record { next = next; size = size; visits = visits; at = 0 }) room out
-program-stepped t old ys room out now input n number next size visits d sized fits kept step text
-    ends numbered goes =
+-- a step of the words of a state, and what it decides
+pub program-stepped : (t : Schedule) (old ys : List ℕ) (now input n visited : ℕ) (d : Decision) →
+    n ≡ held_size t → n + 4 ≤ length old → length ys ≡ n →
+    ((h : History) → take (n + 4 - 4) (drop 4 old) ≡ held_of t h → StepsCode t h ys now input d 0
+    visited) →
+    IsProgramStepped t old (stepped_words n old ys now) (now, input) (decision_number d)
+    (next_moment d) visited
+program-stepped t old ys now input n visited d sized fits kept step =
     let argued : (h : History) (planned : ℕ) → KeepsProgramState t h planned old
-    → StepsCode t h ys now input d 0 visits =
+    → StepsCode t h ys now input d 0 visited =
     λ h planned k. step h (state-arg old (held_of t h) k.0 (program_check t) (last_moment h) planned
-    n k.1 (sized ∙ held-length t [] h)) in
+    (has_stepped h) n k.1 (sized ∙ held-length t [] h)) in
     record {
-      answer = λ h planned k. let s = argued h planned k in record {
-        decision = numbered ∙ ap decision_number s.decides;
-        next = goes ∙ ap next_moment s.decides;
-        text = text ((now, input) ∷ h) s.held;
-        size = ends ((now, input) ∷ h) s.held;
+      tells = λ h planned k. let s = argued h planned k in record {
+        decision = ap decision_number s.decides;
+        next = ap next_moment s.decides;
         visited = omega (arith, s.visited);
-        at = refl;
       };
       state = λ h planned k. (
         k.0,
-        state-new old (held_of t h) k.0 ys (program_check t) (last_moment h) planned n now k.1
-            (sized ∙ held-length t [] h)
-            ∙ ap (λ (z : List ℕ). program_check t ∷ (now ∷ (planned ∷ (z ++ k.0))))
+        state-new old (held_of t h) k.0 ys (program_check t) (last_moment h) planned (has_stepped h)
+            n now k.1 (sized ∙ held-length t [] h)
+            ∙ ap (λ (z : List ℕ). program_check t ∷ (now ∷ (planned ∷ (1 ∷ (z ++ k.0)))))
             (argued h planned k).held,
       );
-      behind = ap (λ k. drop (suc (suc (suc k))) (slice_set (put_mid 3 (n + 3 - 3) old ys) 1 now))
-          (sym sized) ∙ state-behind n now old ys fits kept
-          ∙ ap (λ k. drop (suc (suc (suc k))) old) sized;
+      behind = ap (λ k. drop (suc (suc (suc (suc k)))) (stepped_words n old ys now)) (sym sized)
+          ∙ state-behind n now old ys fits kept
+          ∙ ap (λ k. drop (suc (suc (suc (suc k)))) old) sized;
     }
 
--- the words of a program's state, by their number, and the words that are written over them
-arg-length : (n : ℕ) (old : List ℕ) → n + 3 ≤ length old
-    → length (take (n + 3 - 3) (drop 3 old)) ≡ n
-arg-length n old fits = omega (arith, fits, length-take (n + 3 - 3) (drop 3 old), length-drop 3 old)
-
-written-words : (n : ℕ) (old ys : List ℕ) → n + 3 ≤ length old → length ys ≡ n
-    → take (n + 3 - 3) (drop 3 (put_mid 3 (n + 3 - 3) old ys)) ≡ ys
-written-words n [] ys fits sized = absurd (omega (arith, fits))
-written-words n (a ∷ []) ys fits sized = absurd (omega (arith, fits))
-written-words n (a ∷ (b ∷ [])) ys fits sized = absurd (omega (arith, fits))
-written-words n (a ∷ (b ∷ (c ∷ rest))) ys fits sized =
-    let e : n + 3 - 3 ≡ length ys = omega (arith, sized) in
-    ap (λ k. take k (ys ++ drop (n + 3 - 3) rest)) e ∙ take-append_seam ys (drop (n + 3 - 3) rest)
+-- the number of the words that are written
+arg-length : (n : ℕ) (old : List ℕ) → n + 4 ≤ length old
+    → length (take (n + 4 - 4) (drop 4 old)) ≡ n
+arg-length n old fits = omega (arith, fits, length-take (n + 4 - 4) (drop 4 old), length-drop 4 old)
 
 -- a step of an opened program
 pub opened-stepped : (o : Opened) (t : Schedule) → Opens o t
-    → (old ys room out : List ℕ) (now input number next size visits : ℕ) (d : Decision) →
-    o.state + 3 ≤ length old → length ys ≡ length (take (o.state + 3 - 3) (drop 3 old)) →
+    → (old ys : List ℕ) (now input visited : ℕ) (d : Decision) →
+    o.state + 4 ≤ length old → length ys ≡ length (take (o.state + 4 - 4) (drop 4 old)) →
     ((u : Schedule) (h : History) → IsCode u o.code.now 64 → 0 + weight u ≤ 1000 → take
-    (o.state + 3 - 3) (drop 3 old) ≡ held_of u h → StepsCode u h ys now input d 0 visits) →
-    ((u : Schedule) (g : History) → IsCode u o.code.now 64 → weight u ≤ 1000 → take
-    (o.state + 3 - 3) (drop 3 (put_mid 3 (o.state + 3 - 3) old ys)) ≡ held_of u g →
-    out ≡ written (output_text (answer_of u g).output) room) →
-    ((u : Schedule) (g : History) → IsCode u o.code.now 64 → weight u ≤ 1000 → take
-    (o.state + 3 - 3) (drop 3 (put_mid 3 (o.state + 3 - 3) old ys)) ≡ held_of u g →
-    size ≡ length (output_text (answer_of u g).output)) →
-    number ≡ decision_number d → next ≡ next_moment d →
-    IsProgramStepped t old (slice_set (put_mid 3 (o.state + 3 - 3) old ys) 1 now) now input number
-    (record { next = next; size = size; visits = visits; at = 0 }) room out
-opened-stepped o t opens old ys room out now input number next size visits d fits kept step text
-    ends numbered goes =
-    let n = o.state in
-    let code = opened-code o t opens in
+    (o.state + 4 - 4) (drop 4 old) ≡ held_of u h → StepsCode u h ys now input d 0 visited) →
+    IsProgramStepped t old (stepped_words o.state old ys now) (now, input) (decision_number d)
+    (next_moment d) visited
+opened-stepped o t opens old ys now input visited d fits kept step =
     let light = weight-within t opens.within in
-    let sized : length ys ≡ n = kept ∙ arg-length n old fits in
-    program-stepped t old ys room out now input n number next size visits d opens.state fits sized
-    (λ h arg. step t h code (omega (arith, light)) arg)
-    (λ g held. text t g code light (written-words n old ys fits sized ∙ held))
-    (λ g held. ends t g code light (written-words n old ys fits sized ∙ held))
-    numbered goes
+    program-stepped t old ys now input o.state visited d opens.state fits
+    (kept ∙ arg-length o.state old fits)
+    (λ h arg. step t h (opened-code o t opens) (omega (arith, light)) arg)
 
 -- the same for any words
 pub opened-safe : (o : Opened) (program old ys : List ℕ) (now : ℕ)
-    → o.state ≡ slice_index_or program 3 0 → o.state + 3 ≤ length old →
-    length ys ≡ length (take (o.state + 3 - 3) (drop 3 old)) → IsStepSafe program old
-    (slice_set (put_mid 3 (o.state + 3 - 3) old ys) 1 now) now
+    → o.state ≡ slice_index_or program 3 0 → o.state + 4 ≤ length old →
+    length ys ≡ length (take (o.state + 4 - 4) (drop 4 old)) → IsStepSafe program old
+    (stepped_words o.state old ys now) now
 opened-safe o program old ys now is fits kept =
     safe-words program old ys o.state now is fits (kept ∙ arg-length o.state old fits)
+
+-- the words of an opened program's state after a history
+pub state-words : (o : Opened) (t : Schedule) (h : History) (planned : ℕ) (state : List ℕ)
+    → Opens o t → KeepsProgramState t h planned state
+    → take (o.state + 4 - 4) (drop 4 state) ≡ held_of t h
+state-words o t h planned state opens k =
+    state-arg state (held_of t h) k.0 (program_check t) (last_moment h) planned (has_stepped h)
+    o.state k.1 (opens.state ∙ held-length t [] h)

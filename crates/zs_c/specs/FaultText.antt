@@ -6,7 +6,7 @@ use Rattle.std.specs.Fmt.{decimal}
 -- the text of a number without a place, empty if the number is no fault
 abbrev pub fault_words : ℕ → List ℕ
 fault_words n =
-    if nat_eq n 2 then codes "a schedule answers once it has seen a step"
+    if nat_eq n 2 then codes "no step was made yet"
     else if nat_eq n 3 then codes "the moment is below that of the step before it"
     else if nat_eq n 4 then codes "not UTF-8"
     else if nat_eq n 5 then codes "out of memory"
@@ -14,13 +14,14 @@ fault_words n =
     else if nat_eq n 7 then codes "the words are fewer than the state has"
     else if nat_eq n 8 then codes "no program of this version, or one that was changed"
     else if nat_eq n 9 then codes "the state of another program"
-    else if nat_eq n 10 then codes "no attempt takes these durations"
+    else if nat_eq n 10 then codes "no driver does this"
     else if nat_eq n 11 then codes "no term"
     else if nat_eq n 12 then codes "too big"
     else if nat_eq n 13 then codes "number too large"
     else if nat_eq n 14 then codes "factor is 0"
     else if nat_eq n 15 then codes "no kind"
     else if nat_eq n 16 then codes "window is 0"
+    else if nat_eq n 17 then codes "a struct of another size"
     else []
 
 -- whether the place that goes with a number is a byte of the text

@@ -1,5 +1,4 @@
 -- Named by public clauses: a reader who relies on a clause has to believe what it names.
-pub mod Pairs
 pub mod Numbers
 pub mod Words
 pub mod Refusals

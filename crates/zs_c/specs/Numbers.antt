@@ -8,8 +8,8 @@ use Rattle.zs_term.specs.declared.fault.TermFault.TheVariants.{Memory as TermMem
 use Rattle.zs_step.specs.declared.decision.Decision.{Decision}
 use Rattle.zs_step.specs.declared.decision.Decision.TheVariants.{Stop, Next}
 use Rattle.zs_c.specs.declared.refusal.Refusal.{Refusal}
-use Rattle.zs_c.specs.declared.refusal.Refusal.TheVariants.{NoPair, Falls, NotUtf8, Memory}
-use Rattle.zs_c.specs.declared.refusal.Refusal.TheVariants.{KeepsList, NoRoom, NoDuration, Text}
+use Rattle.zs_c.specs.declared.refusal.Refusal.TheVariants.{NotUtf8, Memory, KeepsList}
+use Rattle.zs_c.specs.declared.refusal.Refusal.TheVariants.{NoRoom, NoDriver, OtherSize, Text}
 
 -- the number of a decision
 abbrev pub decision_number : Decision → ℕ
@@ -43,22 +43,20 @@ fault_place TermMemory = 0
 
 -- the number of an error
 abbrev pub refusal_number : Refusal → ℕ
-refusal_number NoPair = 2
-refusal_number (Falls at) = 3
 refusal_number (NotUtf8 at) = 4
 refusal_number Memory = 5
 refusal_number KeepsList = 6
 refusal_number NoRoom = 7
-refusal_number NoDuration = 10
+refusal_number NoDriver = 10
+refusal_number OtherSize = 17
 refusal_number (Text fault) = fault_number fault
 
--- the byte or the pair at which an error shows, or 0
+-- the byte at which an error shows, or 0
 abbrev pub refusal_place : Refusal → ℕ
-refusal_place NoPair = 0
-refusal_place (Falls at) = at
 refusal_place (NotUtf8 at) = at
 refusal_place Memory = 0
 refusal_place KeepsList = 0
 refusal_place NoRoom = 0
-refusal_place NoDuration = 0
+refusal_place NoDriver = 0
+refusal_place OtherSize = 0
 refusal_place (Text fault) = fault_place fault

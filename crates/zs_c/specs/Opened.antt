@@ -4,11 +4,12 @@ use Rattle.zs_term.specs.Output.{Output}
 use Rattle.zs_term.specs.Schedule.{Schedule, is_within_limits, weight, max_depth, max_weight}
 use Rattle.zs_step.specs.History.{History}
 use Rattle.zs_step.specs.Answer.{answer_of}
+use Rattle.zs_step.specs.declared.decision.Decision.{Decision}
 use Rattle.zs_step.specs.Memory.{keeps_no_list}
 use Rattle.zs_c.specs.declared.program.opening.Opened.{Opened}
 use Rattle.zs_c.specs.declared.program.leaf.Step.{Step}
-use Rattle.zs_c.specs.declared.reply.Reply.{Reply}
 use Rattle.zs_c.specs.Code.{IsCode, code_of, held_of, held_size}
+use Rattle.zs_c.specs.Numbers.{decision_number, next_moment}
 use Rattle.zs_c.specs.Program.{program_check}
 use Rattle.zs_c.specs.Programs.{IsProgramStepped}
 use Rattle.zs_c.specs.declared.turn.Turn.{Turn}
@@ -22,10 +23,12 @@ pub record Opens (o : Opened) (t : Schedule) : Type 0 where
   pub flat : keeps_no_list t ≡ true
   pub within : is_within_limits t ≡ true
 
--- a step is that of every schedule that an opened program is of
-abbrev pub StepsOpened : Opened → List ℕ → List ℕ → Step → Reply → List ℕ → List ℕ → ℕ → Type 0
-StepsOpened o old new step r room out number =
-    (t : Schedule) → Opens o t → IsProgramStepped t old new step.moment step.input number r room out
+-- A decision and a number of visits are those of a step of every schedule that an opened program
+-- is of.
+abbrev pub StepsOpened : Opened → List ℕ → List ℕ → Step → Decision → ℕ → Type 0
+StepsOpened o old new step d visited =
+    (t : Schedule) → Opens o t → IsProgramStepped t old new (step.moment, step.input)
+    (decision_number d) (next_moment d) visited
 
 -- a turn is that of every schedule that an opened program is of
 abbrev pub PlansOpened : Opened → List ℕ → List ℕ → Turn → ℕ → ℕ → Type 0

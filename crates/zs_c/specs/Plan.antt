@@ -1,15 +1,20 @@
 -- When a loop begins its next attempt. A turn is one failed attempt, by the loop's clock. It began
 -- and ended some nanoseconds after the first attempt began. Moments are milliseconds after that.
-use Rattle.std.specs.Prelude.{◌≡◌, ℕ, ◌+◌, ◌-◌, ◌*◌, ◌/◌, ◌≤◌, min, max, nat_le}
+use Rattle.std.specs.Prelude.{◌≡◌, ◌≢◌, ℕ, ◌+◌, ◌-◌, ◌*◌, ◌/◌, ◌≤◌, min, max, nat_le}
 use Rattle.std.specs.Prelude.{if◌then◌else◌, Option, Some, None, List, [], ◌∷◌, length, drop}
+use Rattle.std.specs.Prelude.{slice_index_or}
 use Rattle.zs_term.specs.Saturating.{max_moment, saturated}
 use Rattle.zs_term.specs.Schedule.{Schedule}
-use Rattle.zs_step.specs.History.{History}
+use Rattle.zs_step.specs.History.{History, last_moment}
 use Rattle.zs_step.specs.Answer.{answer_of}
 use Rattle.zs_step.specs.declared.decision.Decision.{Decision}
 use Rattle.zs_step.specs.declared.decision.Decision.TheVariants.{Stop, Next}
 use Rattle.zs_c.specs.declared.turn.Turn.{Turn}
+use Rattle.zs_c.specs.declared.program.denial.Denial.{Denial}
+use Rattle.zs_c.specs.declared.program.denial.Denial.TheVariants.{NoStep, Falls, NoRoom}
+use Rattle.zs_c.specs.declared.program.denial.Denial.TheVariants.{NoProgram, OtherState, OtherSize}
 use Rattle.zs_c.specs.Program.{program_state, KeepsProgramState}
+use Rattle.zs_c.specs.Programs.{IsStepDenied}
 
 -- milliseconds as nanoseconds
 abbrev pub nanos : ℕ → ℕ
@@ -122,3 +127,22 @@ pub record IsTurnPlanned (t : Schedule) (turn : Turn) (old new : List ℕ) (numb
   pub plan : (h : History) (planned : ℕ) → KeepsProgramState t h planned old
       → TellsPlan t h planned turn new number begin
   pub behind : drop (length (program_state t [] 0)) new ≡ drop (length (program_state t [] 0)) old
+
+-- Why a turn isn't planned: it has another size than this version reads; or the program isn't
+-- stepped at the moment of the turn.
+abbrev pub IsTurnDenied : List ℕ → List ℕ → Turn → Denial → Type 0
+IsTurnDenied program state turn OtherSize = turn.size ≢ 56
+IsTurnDenied program state turn NoProgram =
+    IsStepDenied program state (moment_of (slice_index_or state 2 0) turn) NoProgram
+IsTurnDenied program state turn NoRoom =
+    IsStepDenied program state (moment_of (slice_index_or state 2 0) turn) NoRoom
+IsTurnDenied program state turn OtherState =
+    IsStepDenied program state (moment_of (slice_index_or state 2 0) turn) OtherState
+IsTurnDenied program state turn Falls =
+    IsStepDenied program state (moment_of (slice_index_or state 2 0) turn) Falls
+IsTurnDenied program state turn NoStep = ⊥
+
+-- The last step was no later than the planned begin, and a turn has the size that this version
+-- reads. So the turn is planned.
+abbrev pub IsPlannable : History → ℕ → Turn → Type 0
+IsPlannable h planned turn = (last_moment h ≤ planned) × (turn.size ≡ 56)

@@ -1,7 +1,7 @@
 -- A schedule as a program: a version, a check word of the words after it, the sizes of its code and
 -- of its state, and its code.
-use Rattle.std.specs.Prelude.{◌≡◌, ℕ, ◌+◌, ◌*◌, ◌%◌, ◌^◌, ◌<◌, ◌≤◌, true, List, ◌∷◌, ◌++◌, length}
-use Rattle.std.specs.Prelude.{take, drop, fold, slice_index_or}
+use Rattle.std.specs.Prelude.{◌≡◌, ℕ, ◌+◌, ◌*◌, ◌%◌, ◌^◌, ◌<◌, ◌≤◌, true, List, [], ◌∷◌, ◌++◌}
+use Rattle.std.specs.Prelude.{length, take, drop, fold, slice_index_or}
 use Rattle.zs_term.specs.Schedule.{Schedule, is_within_limits}
 use Rattle.zs_step.specs.History.{History, last_moment}
 use Rattle.zs_step.specs.Memory.{keeps_no_list}
@@ -46,10 +46,16 @@ pub record IsProgram (program : List ℕ) (t : Schedule) : Type 0 where
   pub flat : keeps_no_list t ≡ true
   pub within : is_within_limits t ≡ true
 
+-- 1 if a step was made, else 0
+abbrev pub has_stepped : History → ℕ
+has_stepped [] = 0
+has_stepped (p ∷ h) = 1
+
 -- the state of a program after a history: its check word, the last moment, the planned begin of the
--- next attempt in milliseconds, and the words of the schedule's state
+-- next attempt in milliseconds, whether a step was made, and the words of the schedule's state
 abbrev pub program_state : Schedule → History → ℕ → List ℕ
-program_state t h planned = program_check t ∷ (last_moment h ∷ (planned ∷ held_of t h))
+program_state t h planned =
+    program_check t ∷ (last_moment h ∷ (planned ∷ (has_stepped h ∷ held_of t h)))
 
 -- words begin with the state of a schedule's program after a history, with a planned begin
 abbrev pub KeepsProgramState : Schedule → History → ℕ → List ℕ → Type 0

@@ -5,26 +5,26 @@ use Rattle.std.specs.Prelude.{◌≡◌, ◌≢◌, ℕ, ◌+◌, ◌<◌, List,
 use Rattle.std.specs.Prelude.{slice_index_or}
 use Rattle.zs_term.specs.Schedule.{Schedule}
 use Rattle.zs_step.specs.History.{History}
-use Rattle.zs_c.specs.declared.reply.Reply.{Reply}
 use Rattle.zs_c.specs.declared.program.denial.Denial.{Denial}
-use Rattle.zs_c.specs.declared.program.denial.Denial.TheVariants.{NoProgram, NoRoom, OtherState}
-use Rattle.zs_c.specs.declared.program.denial.Denial.TheVariants.{Falls}
+use Rattle.zs_c.specs.declared.program.denial.Denial.TheVariants.{NoStep, Falls, NoRoom}
+use Rattle.zs_c.specs.declared.program.denial.Denial.TheVariants.{NoProgram, OtherState, OtherSize}
 use Rattle.zs_c.specs.Program.{program_of, program_check, program_state, IsProgram}
 use Rattle.zs_c.specs.Program.{KeepsProgramState}
 use Rattle.zs_c.specs.declared.refusal.Refusal.{Refusal}
-use Rattle.zs_c.specs.declared.refusal.Refusal.TheVariants.{NoPair, Falls as RefusalFalls, NotUtf8}
-use Rattle.zs_c.specs.declared.refusal.Refusal.TheVariants.{Memory, KeepsList}
-use Rattle.zs_c.specs.declared.refusal.Refusal.TheVariants.{NoRoom as RefusalNoRoom, NoDuration}
-use Rattle.zs_c.specs.declared.refusal.Refusal.TheVariants.{Text}
+use Rattle.zs_c.specs.declared.refusal.Refusal.TheVariants.{NotUtf8, Memory, KeepsList}
+use Rattle.zs_c.specs.declared.refusal.Refusal.TheVariants.{NoRoom as RefusalNoRoom, NoDriver}
+use Rattle.zs_c.specs.declared.refusal.Refusal.TheVariants.{OtherSize as RefusalOtherSize, Text}
 use Rattle.zs_c.specs.Refusals.{SpellsFlat, IsSizeRefusal}
-use Rattle.zs_c.specs.Told.{TellsAnswer}
+use Rattle.zs_c.specs.Told.{TellsStep, TellsOutput}
 
 -- the number of a denial
 abbrev pub denial_number : Denial → ℕ
+denial_number NoStep = 2
 denial_number Falls = 3
 denial_number NoRoom = 7
 denial_number NoProgram = 8
 denial_number OtherState = 9
+denial_number OtherSize = 17
 
 -- the text spells a schedule, and these are the numbers of words of its program and of its state
 pub record IsProgramSized (text : List ℕ) (size state_size : ℕ) : Type 0 where
@@ -48,9 +48,8 @@ IsCompileRefusal text room KeepsList = IsSizeRefusal text KeepsList
 IsCompileRefusal text room (NotUtf8 at) = IsSizeRefusal text (NotUtf8 at)
 IsCompileRefusal text room (Text fault) = IsSizeRefusal text (Text fault)
 IsCompileRefusal text room Memory = IsSizeRefusal text Memory
-IsCompileRefusal text room NoPair = ⊥
-IsCompileRefusal text room (RefusalFalls at) = ⊥
-IsCompileRefusal text room NoDuration = ⊥
+IsCompileRefusal text room NoDriver = ⊥
+IsCompileRefusal text room RefusalOtherSize = ⊥
 
 -- the text spells a schedule, and this is its program
 pub record IsNewProgram (text words : List ℕ) : Type 0 where
@@ -72,18 +71,40 @@ IsUnfit program state NoProgram = (t : Schedule) → IsProgram program t → ⊥
 IsUnfit program state NoRoom =
     (t : Schedule) → IsProgram program t → length state < length (program_state t [] 0)
 IsUnfit program state OtherState = ⊥
+IsUnfit program state NoStep = ⊥
 IsUnfit program state Falls = ⊥
+IsUnfit program state OtherSize = ⊥
 
--- Why a program isn't stepped: for one of these reasons; or the words are another program's state;
--- or the moment is below the last one, which is their second word.
-abbrev pub IsDenied : List ℕ → List ℕ → ℕ → Denial → Type 0
-IsDenied program state now NoProgram = IsUnfit program state NoProgram
-IsDenied program state now NoRoom = IsUnfit program state NoRoom
-IsDenied program state now OtherState =
+-- Why a program has no such state: for one of these reasons; or the words are another program's.
+abbrev pub IsForeign : List ℕ → List ℕ → Denial → Type 0
+IsForeign program state NoProgram = IsUnfit program state NoProgram
+IsForeign program state NoRoom = IsUnfit program state NoRoom
+IsForeign program state OtherState =
     (t : Schedule) → IsProgram program t → slice_index_or state 0 0 ≢ program_check t
-IsDenied program state now Falls = now < slice_index_or state 1 0
+IsForeign program state NoStep = ⊥
+IsForeign program state Falls = ⊥
+IsForeign program state OtherSize = ⊥
 
--- a number is that of a reason that holds why a program isn't begun, or not stepped
+-- Why a program isn't stepped: for one of these reasons; or the moment is below the last one, which
+-- is the second word of the state.
+abbrev pub IsStepDenied : List ℕ → List ℕ → ℕ → Denial → Type 0
+IsStepDenied program state now Falls = now < slice_index_or state 1 0
+IsStepDenied program state now NoProgram = IsForeign program state NoProgram
+IsStepDenied program state now NoRoom = IsForeign program state NoRoom
+IsStepDenied program state now OtherState = IsForeign program state OtherState
+IsStepDenied program state now NoStep = ⊥
+IsStepDenied program state now OtherSize = ⊥
+
+-- Why there is no output: the words are no state of a program; or no step was made.
+abbrev pub IsOutputDenied : List ℕ → List ℕ → Denial → Type 0
+IsOutputDenied program state NoStep = slice_index_or state 3 0 ≡ 0
+IsOutputDenied program state NoProgram = IsForeign program state NoProgram
+IsOutputDenied program state NoRoom = IsForeign program state NoRoom
+IsOutputDenied program state OtherState = IsForeign program state OtherState
+IsOutputDenied program state Falls = ⊥
+IsOutputDenied program state OtherSize = ⊥
+
+-- a number is that of a reason that holds why a call over a program fails
 pub record IsDeniedFor (Holds : Denial → Type 0) (n : ℕ) : Type 0 where
   pub why : Denial
   pub is_so : Holds why
@@ -98,15 +119,21 @@ pub record IsProgramBegun (t : Schedule) (old new : List ℕ) : Type 0 where
 pub record IsStepSafe (program old new : List ℕ) (now : ℕ) : Type 0 where
   pub check : slice_index_or new 0 0 ≡ slice_index_or old 0 0
   pub moment : slice_index_or new 1 0 ≡ now
-  pub behind : drop (slice_index_or program 3 0 + 3) new ≡ drop (slice_index_or program 3 0 + 3) old
+  pub behind : drop (slice_index_or program 3 0 + 4) new ≡ drop (slice_index_or program 3 0 + 4) old
 
--- The result of one more step is returned, for each history whose state the words were. The new
+-- The decision of one more step is returned, for each history whose state the words were. The new
 -- words are the state after that step, with the same planned begin. Words after the state are
 -- unchanged, whatever the words were.
-pub record IsProgramStepped (t : Schedule) (old new : List ℕ) (now input number : ℕ) (r : Reply)
-    (room out : List ℕ) : Type 0 where
-  pub answer : (h : History) (planned : ℕ) → KeepsProgramState t h planned old
-      → TellsAnswer t ((now, input) ∷ h) number r room out
+pub record IsProgramStepped (t : Schedule) (old new : List ℕ) (step : ℕ × ℕ)
+    (number next visited : ℕ) : Type 0 where
+  pub tells : (h : History) (planned : ℕ) → KeepsProgramState t h planned old
+      → TellsStep t (step ∷ h) number next visited
   pub state : (h : History) (planned : ℕ) → KeepsProgramState t h planned old
-      → KeepsProgramState t ((now, input) ∷ h) planned new
+      → KeepsProgramState t (step ∷ h) planned new
   pub behind : drop (length (program_state t [] 0)) new ≡ drop (length (program_state t [] 0)) old
+
+-- The output of the last step is returned, for each history whose state the words are.
+abbrev pub IsOutputTold : Schedule → List ℕ → List ℕ → List ℕ → ℕ → Type 0
+IsOutputTold t state room out size =
+    (h : History) (planned : ℕ) → KeepsProgramState t h planned state
+    → TellsOutput t h room out size

@@ -1,15 +1,13 @@
--- Why a text is rejected, why its schedule has no result for a list of pairs, and why it has no
--- program.
-use Rattle.std.specs.Prelude.{◌≡◌, ℕ, true, false, List, [], Err}
+-- Why a text is rejected, and why its schedule has no program.
+use Rattle.std.specs.Prelude.{◌≡◌, ℕ, true, false, List, Err}
 use Rattle.std.specs.Str.{IsUtf8}
 use Rattle.std.specs.Str.Lossy.{utf8_valid_len}
 use Rattle.zs_term.specs.Schedule.{Schedule}
 use Rattle.zs_term.specs.Causes.{SpellsSchedule}
 use Rattle.zs_term.specs.Verdict.{verdict_of}
 use Rattle.zs_c.specs.declared.refusal.Refusal.{Refusal}
-use Rattle.zs_c.specs.declared.refusal.Refusal.TheVariants.{NoPair, Falls, NotUtf8, Memory}
-use Rattle.zs_c.specs.declared.refusal.Refusal.TheVariants.{KeepsList, NoRoom, NoDuration, Text}
-use Rattle.zs_c.specs.Pairs.{FallsFirstAt}
+use Rattle.zs_c.specs.declared.refusal.Refusal.TheVariants.{NotUtf8, Memory, KeepsList}
+use Rattle.zs_c.specs.declared.refusal.Refusal.TheVariants.{NoRoom, NoDriver, OtherSize, Text}
 use Rattle.zs_step.specs.Memory.{keeps_no_list}
 
 -- the text spells a schedule
@@ -22,23 +20,10 @@ abbrev pub IsTextRefusal : List ℕ → Refusal → Type 0
 IsTextRefusal text (NotUtf8 at) = (IsUtf8 text → ⊥) × (at ≡ utf8_valid_len text)
 IsTextRefusal text (Text fault) = IsUtf8 text × (verdict_of text ≡ Err fault)
 IsTextRefusal text Memory = Unit {0}
-IsTextRefusal text NoPair = ⊥
-IsTextRefusal text (Falls at) = ⊥
 IsTextRefusal text KeepsList = ⊥
 IsTextRefusal text NoRoom = ⊥
-IsTextRefusal text NoDuration = ⊥
-
--- Why there is no result: the text is rejected; or it spells a schedule, and there is no pair or
--- the moments fall.
-abbrev pub IsRefusal : List ℕ → List (ℕ × ℕ) → Refusal → Type 0
-IsRefusal text pairs NoPair = SpellsSome text × (pairs ≡ [])
-IsRefusal text pairs (Falls at) = SpellsSome text × FallsFirstAt pairs at
-IsRefusal text pairs (NotUtf8 at) = IsTextRefusal text (NotUtf8 at)
-IsRefusal text pairs (Text fault) = IsTextRefusal text (Text fault)
-IsRefusal text pairs Memory = IsTextRefusal text Memory
-IsRefusal text pairs KeepsList = ⊥
-IsRefusal text pairs NoRoom = ⊥
-IsRefusal text pairs NoDuration = ⊥
+IsTextRefusal text NoDriver = ⊥
+IsTextRefusal text OtherSize = ⊥
 
 -- the text spells a schedule that stores no list
 pub record SpellsFlat (text : List ℕ) (t : Schedule) : Type 0 where
@@ -57,7 +42,6 @@ IsSizeRefusal text KeepsList = SpellsListed text
 IsSizeRefusal text (NotUtf8 at) = IsTextRefusal text (NotUtf8 at)
 IsSizeRefusal text (Text fault) = IsTextRefusal text (Text fault)
 IsSizeRefusal text Memory = IsTextRefusal text Memory
-IsSizeRefusal text NoPair = ⊥
-IsSizeRefusal text (Falls at) = ⊥
 IsSizeRefusal text NoRoom = ⊥
-IsSizeRefusal text NoDuration = ⊥
+IsSizeRefusal text NoDriver = ⊥
+IsSizeRefusal text OtherSize = ⊥

@@ -1,36 +1,53 @@
 //! What a schedule does for every input, as C reads it.
 
 ghost use Rattle.std.specs.Prelude.{◌≡◌, IfOk, IfErr};
-ghost use Rattle.zs_c.specs.Bounded.{IsBounded, IsBoundsRefusal, bounds_told, bound_told, driver_of, has_bound, is_possible, no_bounds_told};
+ghost use Rattle.zs_c.specs.Bounded.{IsBounded, IsBoundsRefusal, bounds_told, bound_told, driver_of, has_bound, is_possible};
 
-use crate::answering::schedule_in;
+use crate::reading::schedule_in;
 use crate::refusal::Refusal;
 use std::alloc::Global;
 use zs_bounds::{Bounds, Driver, Waits};
 
-/// How long each attempt takes, in milliseconds, as C says it.
+/// The bytes of a `GivenDriver`, and those of a `BoundsTold`.
+const DRIVER_SIZE: u64 = 64;
+
+const BOUNDS_SIZE: u64 = 80;
+
+/// What a driver may do, as C says it. Times are in milliseconds.
 #[repr(C)]
 #[derive(Clone, Copy)]
-pub struct GivenDurations {
+pub struct GivenDriver {
+    /// The bytes of this struct: 64.
+    pub size: u64,
     /// No attempt takes less: 1 or more.
     pub least: u64,
     /// 0 if attempts may take any time, else they take at most `most`.
     pub has_most: u64,
     /// No attempt takes more: `least` or more.
     pub most: u64,
+    /// No wait is shorter than this percentage of the schedule's: 100, or less with jitter.
+    pub least_percent: u64,
+    /// No wait is longer than this percentage of it, but for `asked`: `least_percent` or more.
+    pub most_percent: u64,
+    /// The longest wait that may be requested in place of a shorter one, or 0.
+    pub asked: u64,
+    /// How late an attempt may begin. The greatest number of 64 bits means any lateness.
+    pub late: u64,
 }
 
-impl GivenDurations {
-    // Whether an attempt can take so long.
-    fn is_possible(self) -> bool
-        ensures value { result ≡ is_possible self }
+impl GivenDriver {
+    // Whether a driver can do this.
+    fn is_possible(&self) -> bool
+        ensures value { result ≡ is_possible self.now }
     {
-        0 < self.least && (self.has_most == 0 || self.least <= self.most)
+        0 < self.least
+            && (self.has_most == 0 || self.least <= self.most)
+            && self.least_percent <= self.most_percent
     }
 
-    // Converts durations from the form that C writes. Waits are the schedule's.
-    fn driver(self) -> Driver
-        ensures value { result ≡ driver_of self }
+    // Converts a driver from the form that C writes.
+    fn driver(&self) -> Driver
+        ensures value { result ≡ driver_of self.now }
     {
         let most = if self.has_most == 0 {
             None
@@ -40,15 +57,22 @@ impl GivenDurations {
         Driver {
             least: self.least,
             most,
-            waits: Waits::exact(),
+            waits: Waits {
+                least_percent: self.least_percent,
+                most_percent: self.most_percent,
+                asked: self.asked,
+                late: self.late,
+            },
         }
     }
 }
 
-/// What holds for every input, if attempts take as long as C says. A field that says nothing is 0.
+/// What holds for every input, with a driver. A field that says nothing is 0.
 #[repr(C)]
 #[derive(Drop)]
 pub struct BoundsTold {
+    /// The bytes of this struct: 80.
+    pub size: u64,
     /// The number of steps that were examined.
     pub seen: u64,
     /// No step before this one is the last.
@@ -71,10 +95,11 @@ pub struct BoundsTold {
 
 impl BoundsTold {
     // Converts bounds to the form that C reads.
-    pub(crate) fn of(bounds: Bounds) -> BoundsTold
+    fn of(bounds: Bounds) -> BoundsTold
         ensures value { result ≡ bounds_told bounds }
     {
         BoundsTold {
+            size: BOUNDS_SIZE,
             seen: bounds.seen,
             least: bounds.least,
             has_most: has_bound(bounds.most),
@@ -86,37 +111,24 @@ impl BoundsTold {
             longest_run: bound_told(bounds.longest_run),
         }
     }
-
-    // Returns no bounds: every field is 0.
-    pub(crate) fn nothing() -> BoundsTold
-        ensures value { result ≡ no_bounds_told }
-    {
-        BoundsTold {
-            seen: 0,
-            least: 0,
-            has_most: 0,
-            most: 0,
-            longest: 0,
-            has_total: 0,
-            total: 0,
-            has_longest_run: 0,
-            longest_run: 0,
-        }
-    }
 }
 
-// Returns the bounds of a text's schedule, over at most `steps` steps.
+// Returns the bounds of a text's schedule, over at most `steps` steps. They replace `old`.
 pub(crate) fn bounds_in(
     alloc: Global,
     text: &[u8],
-    given: GivenDurations,
+    given: &GivenDriver,
     steps: u64,
+    old: &BoundsTold,
 ) -> Result<BoundsTold, Refusal>
-    ensures ok { IfOk result (IsBounded text.now given steps) }
-    ensures err { IfErr result (IsBoundsRefusal text.now given) }
+    ensures ok { IfOk result (IsBounded text.now given.now steps) }
+    ensures err { IfErr result (IsBoundsRefusal text.now given.now old.now) }
 {
+    if given.size != DRIVER_SIZE || old.size != BOUNDS_SIZE {
+        return Err(Refusal::OtherSize);
+    }
     if !given.is_possible() {
-        return Err(Refusal::NoDuration);
+        return Err(Refusal::NoDriver);
     }
     let checked = schedule_in(alloc, text)?;
     let bounds = zs_bounds::bounds(alloc, &checked, given.driver(), steps)?;

@@ -11,10 +11,6 @@ use zs_term::TermFault;
 /// Why a call fails.
 #[derive(Clone, Copy)]
 pub(crate) enum Refusal {
-    /// No pair was given.
-    NoPair,
-    /// The moment of the pair `at` is below that of the pair before it.
-    Falls { at: u64 },
     /// The text isn't UTF-8 from the byte `at` on.
     NotUtf8 { at: u64 },
     /// Memory ran out.
@@ -23,8 +19,10 @@ pub(crate) enum Refusal {
     KeepsList,
     /// The words are fewer than the schedule's state has.
     NoRoom,
-    /// No attempt takes the given durations.
-    NoDuration,
+    /// No driver does what is given.
+    NoDriver,
+    /// A struct isn't of the size that this version reads.
+    OtherSize,
     /// The text spells no schedule.
     Text { fault: TermFault },
 }
@@ -35,28 +33,27 @@ impl Refusal {
         ensures value { result ≡ refusal_number self }
     {
         match self {
-            Refusal::NoPair => 2,
-            Refusal::Falls { at: _ } => 3,
             Refusal::NotUtf8 { at: _ } => 4,
             Refusal::Memory => 5,
             Refusal::KeepsList => 6,
             Refusal::NoRoom => 7,
-            Refusal::NoDuration => 10,
+            Refusal::NoDriver => 10,
+            Refusal::OtherSize => 17,
             Refusal::Text { fault } => number_of(fault),
         }
     }
 
-    // Returns the byte or the pair at which it shows, or 0.
+    // Returns the byte at which it shows, or 0.
     pub(crate) fn place(self) -> u64
         ensures value { result ≡ refusal_place self }
     {
         match self {
-            Refusal::NoPair
-            | Refusal::Memory
+            Refusal::Memory
             | Refusal::KeepsList
             | Refusal::NoRoom
-            | Refusal::NoDuration => 0,
-            Refusal::Falls { at } | Refusal::NotUtf8 { at } => at,
+            | Refusal::NoDriver
+            | Refusal::OtherSize => 0,
+            Refusal::NotUtf8 { at } => at,
             Refusal::Text { fault } => place_of(fault),
         }
     }

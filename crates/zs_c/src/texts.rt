@@ -8,7 +8,7 @@ pub(crate) fn fault_words(number: u32) -> &'static str
     ensures value { result.now ≡ fault_words number }
 {
     match number {
-        2 => "a schedule answers once it has seen a step",
+        2 => "no step was made yet",
         3 => "the moment is below that of the step before it",
         4 => "not UTF-8",
         5 => "out of memory",
@@ -16,13 +16,14 @@ pub(crate) fn fault_words(number: u32) -> &'static str
         7 => "the words are fewer than the state has",
         8 => "no program of this version, or one that was changed",
         9 => "the state of another program",
-        10 => "no attempt takes these durations",
+        10 => "no driver does this",
         11 => "no term",
         12 => "too big",
         13 => "number too large",
         14 => "factor is 0",
         15 => "no kind",
         16 => "window is 0",
+        17 => "a struct of another size",
         _ => "",
     }
 }

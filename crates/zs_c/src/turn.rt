@@ -1,6 +1,6 @@
 //! A turn of a retry loop: one failed attempt, and when the next one begins.
 
-ghost use Rattle.std.specs.Prelude.{◌≡◌, ◌*◌, ◌/◌, ◌<◌, ◌≤◌, min, IfSome, IfNone};
+ghost use Rattle.std.specs.Prelude.{◌≡◌, ◌*◌, ◌/◌, ◌<◌, ◌≤◌, min, nat_eq, IfSome, IfNone};
 ghost use Rattle.zs_c.specs.Plan.{nanos, end_of, moment_of, rest_of, asked_of, begin_of};
 ghost use Rattle.zs_c.specs.Planned.{IsCounted};
 
@@ -9,6 +9,8 @@ ghost use Rattle.zs_c.specs.Planned.{IsCounted};
 #[repr(C)]
 #[derive(Clone, Copy)]
 pub struct Turn {
+    /// The bytes of this struct: 56.
+    pub size: u64,
     /// When the attempt began.
     pub began: u64,
     /// When the attempt ended. If the clock fell since `began`, it counts as one that didn't move.
@@ -25,7 +27,17 @@ pub struct Turn {
     pub draw: u32,
 }
 
+/// The bytes of a `Turn`.
+const TURN_SIZE: u64 = 56;
+
 impl Turn {
+    // Whether it has the size that this version reads.
+    pub(crate) fn is_sized(self) -> bool
+        ensures value { result ≡ nat_eq self.size 56 }
+    {
+        self.size == TURN_SIZE
+    }
+
     // Returns when the attempt ended, by a clock that never falls.
     fn end(self) -> u64
         ensures value { result ≡ end_of self }

@@ -7,5 +7,7 @@
 mod policies;
 mod programs;
 
-pub use policies::{zs_answer, zs_bounds, zs_check, zs_fault_text, zs_version};
-pub use programs::{zs_compile, zs_plan, zs_program_begin, zs_program_size, zs_program_step};
+pub use policies::{zs_bounds, zs_check, zs_strerror, zs_version};
+pub use programs::{
+    zs_compile, zs_output, zs_plan, zs_program_begin, zs_program_size, zs_program_step,
+};

@@ -2,16 +2,16 @@
 
 ghost use Rattle.std.specs.Prelude.{◌≡◌, ◌<◌, ◌≤◌, ℕ, length, slice_index_or};
 ghost use Rattle.zs_term.specs.Schedule.{Schedule};
-ghost use Rattle.zs_step.specs.History.{History, last_moment};
-ghost use Rattle.zs_c.specs.Plan.{BeginsFairly, IsTurnPlanned, moment_of};
+ghost use Rattle.zs_step.specs.History.{History};
+ghost use Rattle.zs_c.specs.Plan.{BeginsFairly, IsPlannable, IsTurnDenied, IsTurnPlanned, moment_of};
 ghost use Rattle.zs_c.specs.Planned.{KeepsBounds};
 ghost use Rattle.zs_c.specs.Program.{IsChecked, IsProgram, KeepsProgramState};
-ghost use Rattle.zs_c.specs.Programs.{IsProgramSized, IsCompiled, IsCompileRefusal, IsUnfit, IsDenied, IsDeniedFor, IsProgramBegun, IsProgramStepped, IsStepSafe};
+ghost use Rattle.zs_c.specs.Programs.{IsProgramSized, IsCompiled, IsCompileRefusal, IsUnfit, IsStepDenied, IsOutputDenied, IsDeniedFor, IsProgramBegun, IsProgramStepped, IsOutputTold, IsStepSafe};
 ghost use Rattle.zs_c.specs.Refusals.{IsSizeRefusal};
 ghost use Rattle.zs_c.specs.Told.{IsRefusedFor};
 
 use std::alloc::Global;
-use zs_c::{Reply, Turn};
+use zs_c::Turn;
 
 /// Sets `size` and `state_size` to the number of words of the program of a text's schedule, and of
 /// its state. Returns 0, or the number of an error, and sets `at` to the byte at which a fault
@@ -61,29 +61,45 @@ pub extern "C" fn zs_program_begin(program: &[u64], state: &mut [u64]) -> u32
 }
 
 /// Steps a program once, from the state that `state` represents. Returns 0 if the schedule
-/// continues, 1 if it is done, else the number of an error. The words then represent the state
-/// after that step. The planned begin in the state is unchanged. After an error `state` and `out`
-/// are unchanged. The call allocates no memory.
+/// continues, at the moment `next` in milliseconds; 1 if it is done; else the number of an error.
+/// The words then represent the state after that step. The planned begin in the state is unchanged.
+/// `visits` is the number of nodes that the step visited. `next` is 0 unless 0 is returned, and
+/// after an error `visits` is 0 and `state` is unchanged. The call allocates no memory.
 #[unsafe(no_mangle)]
 pub extern "C" fn zs_program_step(
     program: &[u64],
     state: &mut [u64],
     moment: u64,
     input: u64,
-    reply: &mut Reply,
-    out: &mut [u8],
+    next: &mut u64,
+    visits: &mut u64,
 ) -> u32
     ensures stepped { result ≤ 1 → (t : Schedule) → IsProgram program.now t
-        → IsProgramStepped t state.old state.new moment input result reply.new out.old out.new }
+        → IsProgramStepped t state.old state.new (moment, input) result next.new visits.new }
     ensures checked { result ≤ 1 → IsChecked program.now }
     ensures safe { result ≤ 1 → IsStepSafe program.now state.old state.new moment }
     ensures planned { slice_index_or state.new 2 0 ≡ slice_index_or state.old 2 0 }
-    ensures refused { 1 < result → IsDeniedFor (IsDenied program.now state.old moment) result }
-    ensures nothing { 1 < result → reply.new ≡ record { next = 0; size = 0; visits = 0; at = 0 } }
+    ensures refused { 1 < result → IsDeniedFor (IsStepDenied program.now state.old moment) result }
+    ensures nothing { 1 < result → (next.new ≡ 0) × (visits.new ≡ 0) }
     ensures stays { 1 < result → state.new ≡ state.old }
-    ensures kept { 1 < result → out.new ≡ out.old }
 {
-    zs_c::zs_program_step(program, state, moment, input, reply, out)
+    zs_c::zs_program_step(program, state, moment, input, next, visits)
+}
+
+/// Writes the text of the output of the last step and a byte 0 to the front of `out`, as far as
+/// they fit, and sets `size` to the length of the text in bytes, without the byte 0. Returns 0, or
+/// the number of an error. After an error `out` is unchanged and `size` is 0. The call allocates no
+/// memory.
+#[unsafe(no_mangle)]
+pub extern "C" fn zs_output(program: &[u64], state: &[u64], out: &mut [u8], size: &mut u64) -> u32
+    ensures told { result ≡ 0 → (t : Schedule) → IsProgram program.now t
+        → IsOutputTold t state.now out.old out.new size.new }
+    ensures checked { result ≡ 0 → IsChecked program.now }
+    ensures refused { 0 < result → IsDeniedFor (IsOutputDenied program.now state.now) result }
+    ensures nothing { 0 < result → size.new ≡ 0 }
+    ensures kept { 0 < result → out.new ≡ out.old }
+{
+    zs_c::zs_output(program, state, out, size)
 }
 
 /// Steps a program at the end of a loop's attempt, and plans the next one. Returns 0 if the next
@@ -100,12 +116,11 @@ pub extern "C" fn zs_plan(program: &[u64], state: &mut [u64], turn: &Turn, begin
         → KeepsProgramState t h planned state.old → BeginsFairly t h planned turn.now begin.new }
     ensures bounded { result ≤ 1 → KeepsBounds program.now state.old turn.now result begin.new }
     ensures succeeds { (t : Schedule) (h : History) (planned : ℕ) → IsProgram program.now t
-        → KeepsProgramState t h planned state.old → last_moment h ≤ planned → result ≤ 1 }
+        → KeepsProgramState t h planned state.old → IsPlannable h planned turn.now → result ≤ 1 }
     ensures checked { result ≤ 1 → IsChecked program.now }
     ensures safe { result ≤ 1 → IsStepSafe program.now state.old state.new
         (moment_of (slice_index_or state.old 2 0) turn.now) }
-    ensures refused { 1 < result → IsDeniedFor (IsDenied program.now state.old
-        (moment_of (slice_index_or state.old 2 0) turn.now)) result }
+    ensures refused { 1 < result → IsDeniedFor (IsTurnDenied program.now state.old turn.now) result }
     ensures nothing { 0 < result → begin.new ≡ 0 }
     ensures stays { 1 < result → state.new ≡ state.old }
 {

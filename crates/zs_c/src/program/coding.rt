@@ -30,7 +30,7 @@ pub(crate) fn new_program(alloc: Global, checked: &Checked) -> Result<(Vec<u64>,
     let mut program = Vec::new(alloc);
     program.extend_from_slice(&[PROGRAM_VERSION, check_word(&body)])?;
     program.extend_from_slice(&body)?;
-    Ok((program, state + 3))
+    Ok((program, state + 4))
 }
 
 // Appends the code of a term. Returns the number of words of the term's state.

@@ -4,8 +4,8 @@ ghost use Rattle.std.specs.Prelude.{◌≡◌, ◌≤◌, length, IfOk, IfErr};
 ghost use Rattle.zs_c.specs.Refusals.{IsSizeRefusal};
 ghost use Rattle.zs_c.specs.Programs.{IsNewProgram, IsProgramSized, IsCompileRefusal};
 
-use crate::answering::schedule_in;
 use crate::program::coding::new_program;
+use crate::reading::schedule_in;
 use crate::refusal::Refusal;
 use std::alloc::Global;
 

@@ -2,23 +2,25 @@
 
 ghost use Rattle.std.specs.Prelude.{◌≡◌, ◌<◌, ◌≤◌, ℕ, length, slice_index_or};
 ghost use Rattle.zs_term.specs.Schedule.{Schedule};
-ghost use Rattle.zs_step.specs.History.{History, last_moment};
-ghost use Rattle.zs_c.specs.Plan.{BeginsFairly, IsTurnPlanned, moment_of};
+ghost use Rattle.zs_step.specs.History.{History};
+ghost use Rattle.zs_c.specs.Numbers.{decision_number, next_moment};
+ghost use Rattle.zs_c.specs.Plan.{BeginsFairly, IsPlannable, IsTurnDenied, IsTurnPlanned, moment_of};
 ghost use Rattle.zs_c.specs.Planned.{KeepsBounds};
 ghost use Rattle.zs_c.specs.Program.{IsChecked, IsProgram, KeepsProgramState};
-ghost use Rattle.zs_c.specs.Programs.{IsProgramSized, IsCompiled, IsCompileRefusal, IsUnfit, IsDenied, IsDeniedFor, IsProgramBegun, IsProgramStepped, IsStepSafe};
+ghost use Rattle.zs_c.specs.Programs.{IsProgramSized, IsCompiled, IsCompileRefusal, IsUnfit, IsStepDenied, IsOutputDenied, IsDeniedFor, IsProgramBegun, IsProgramStepped, IsOutputTold, IsStepSafe};
 ghost use Rattle.zs_c.specs.Refusals.{IsSizeRefusal};
 ghost use Rattle.zs_c.specs.Told.{IsRefusedFor};
 
 use crate::program::compiling::{fitting_program, sizes_in};
 use crate::program::leaf::Step;
-use crate::program::node::word;
-use crate::program::planning::plan_turn;
-use crate::program::running::{begin, open_fitting, open_for_step, run_step};
-use crate::reply::Reply;
+use crate::program::planning::{open_for_turn, plan_turn};
+use crate::program::running::{
+    begin, open_fitting, open_for_output, open_for_step, put_text, run_step,
+};
 use crate::room::put_words;
 use crate::turn::Turn;
 use std::alloc::Global;
+use zs_step::Decision;
 
 /// Sets `size` and `state_size` to the number of words of the program of a text's schedule, and of
 /// its state. Returns 0, or the number of an error, and sets `at` to the byte at which a fault
@@ -92,36 +94,75 @@ pub fn zs_program_begin(program: &[u64], state: &mut [u64]) -> u32
 }
 
 /// Steps a program once, from the state that `state` represents. Returns 0 if the schedule
-/// continues, 1 if it is done, else the number of an error. The words then represent the state
-/// after that step. The planned begin in the state is unchanged. After an error `state` and `out`
-/// are unchanged. The call allocates no memory.
+/// continues, at the moment `next` in milliseconds; 1 if it is done; else the number of an error.
+/// The words then represent the state after that step. The planned begin in the state is unchanged.
+/// `visits` is the number of nodes that the step visited. `next` is 0 unless 0 is returned, and
+/// after an error `visits` is 0 and `state` is unchanged. The call allocates no memory.
 pub fn zs_program_step(
     program: &[u64],
     state: &mut [u64],
     moment: u64,
     input: u64,
-    reply: &mut Reply,
-    out: &mut [u8],
+    next: &mut u64,
+    visits: &mut u64,
 ) -> u32
     ensures stepped { result ≤ 1 → (t : Schedule) → IsProgram program.now t
-        → IsProgramStepped t state.old state.new moment input result reply.new out.old out.new }
+        → IsProgramStepped t state.old state.new (moment, input) result next.new visits.new }
     // The words have a version, a code and its check word.
     ensures checked { result ≤ 1 → IsChecked program.now }
     // A step of such words leaves the state's first word, and what follows the state.
     ensures safe { result ≤ 1 → IsStepSafe program.now state.old state.new moment }
     ensures planned { slice_index_or state.new 2 0 ≡ slice_index_or state.old 2 0 }
     // No program, too few words, another program's state, or a moment below the last one.
-    ensures refused { 1 < result → IsDeniedFor (IsDenied program.now state.old moment) result }
-    ensures nothing { 1 < result → reply.new ≡ record { next = 0; size = 0; visits = 0; at = 0 } }
+    ensures refused { 1 < result → IsDeniedFor (IsStepDenied program.now state.old moment) result }
+    ensures nothing { 1 < result → (next.new ≡ 0) × (visits.new ≡ 0) }
     ensures stays { 1 < result → state.new ≡ state.old }
-    ensures kept { 1 < result → out.new ≡ out.old }
 {
-    match open_for_step(program, state, moment) {
-        Ok(opened) => run_step(opened, state, &Step { moment, input }, reply, out),
+    let (number, begin) = match open_for_step(program, state, moment) {
+        Ok(opened) => decision_parts(run_step(opened, state, &Step { moment, input }, visits)),
         Err(why) => {
-            *reply = Reply::nothing();
+            *visits = 0;
+            (why.number(), 0)
+        }
+    };
+    *next = begin;
+    number
+}
+
+/// Writes the text of the output of the last step and a byte 0 to the front of `out`, as far as
+/// they fit, and sets `size` to the length of the text in bytes, without the byte 0. Returns 0, or
+/// the number of an error. After an error `out` is unchanged and `size` is 0. The call allocates no
+/// memory.
+pub fn zs_output(program: &[u64], state: &[u64], out: &mut [u8], size: &mut u64) -> u32
+    ensures told { result ≡ 0 → (t : Schedule) → IsProgram program.now t
+        → IsOutputTold t state.now out.old out.new size.new }
+    ensures checked { result ≡ 0 → IsChecked program.now }
+    // No program, too few words, another program's state, or no step.
+    ensures refused { 0 < result → IsDeniedFor (IsOutputDenied program.now state.now) result }
+    ensures nothing { 0 < result → size.new ≡ 0 }
+    ensures kept { 0 < result → out.new ≡ out.old }
+{
+    match open_for_output(program, state) {
+        Ok(opened) => {
+            *size = put_text(opened.code, &state[4..opened.state + 4], out);
+            0
+        }
+        Err(why) => {
+            *size = 0;
             why.number()
         }
+    }
+}
+
+// Returns the number of a decision, and the moment at which the schedule continues, or 0.
+fn decision_parts(decision: Decision) -> (u32, u64)
+    ensures number { result.0 ≡ decision_number decision }
+    ensures told { result.0 ≤ 1 }
+    ensures next { result.1 ≡ next_moment decision }
+{
+    match decision {
+        Decision::Next(next) => (0, next),
+        Decision::Stop => (1, 0),
     }
 }
 
@@ -138,16 +179,15 @@ pub fn zs_plan(program: &[u64], state: &mut [u64], turn: &Turn, begin: &mut u64)
         → KeepsProgramState t h planned state.old → BeginsFairly t h planned turn.now begin.new }
     ensures bounded { result ≤ 1 → KeepsBounds program.now state.old turn.now result begin.new }
     ensures succeeds { (t : Schedule) (h : History) (planned : ℕ) → IsProgram program.now t
-        → KeepsProgramState t h planned state.old → last_moment h ≤ planned → result ≤ 1 }
+        → KeepsProgramState t h planned state.old → IsPlannable h planned turn.now → result ≤ 1 }
     ensures checked { result ≤ 1 → IsChecked program.now }
     ensures safe { result ≤ 1 → IsStepSafe program.now state.old state.new
         (moment_of (slice_index_or state.old 2 0) turn.now) }
-    ensures refused { 1 < result → IsDeniedFor (IsDenied program.now state.old
-        (moment_of (slice_index_or state.old 2 0) turn.now)) result }
+    ensures refused { 1 < result → IsDeniedFor (IsTurnDenied program.now state.old turn.now) result }
     ensures nothing { 0 < result → begin.new ≡ 0 }
     ensures stays { 1 < result → state.new ≡ state.old }
 {
-    match open_for_step(program, state, turn.moment(word(state, 2))) {
+    match open_for_turn(program, state, turn) {
         Ok(opened) => plan_turn(opened, state, *turn, begin),
         Err(why) => {
             *begin = 0;

@@ -12,7 +12,7 @@ pub returns-in-Ok-clause-fair : goal.returns-in-Ok-clause-fair
 returns-in-Ok-clause-fair c none t h planned program kept =
     let told = (c.plan_turn.ensures.planned t (c.in-Ok.ensures.ok t program)).plan h planned kept in
     turn-fair t h planned c.args.turn.now c.plan_turn.new.state c.plan_turn.result
-    c.plan_turn.new.begin c.moment.ensures.counted.draw told none
+    c.plan_turn.new.begin c.in-Ok.ensures.counted.draw told none
 
 pub returns-in-Ok-clause-bounded : goal.returns-in-Ok-clause-bounded
 returns-in-Ok-clause-bounded c small t d h planned program kept was allows keeps =
@@ -21,11 +21,10 @@ returns-in-Ok-clause-bounded c small t d h planned program kept was allows keeps
     in
     stays-within t d h planned c.args.turn.now c.plan_turn.result c.plan_turn.new.begin
     (plan_after t h (planned / 1000000) c.args.turn.now)
-    allows c.moment.ensures.counted was keeps refl told.numbered told.begins
+    allows c.in-Ok.ensures.counted was keeps refl told.numbered told.begins
 
 pub returns-in-Err-clause-succeeds : goal.returns-in-Err-clause-succeeds
-returns-in-Err-clause-succeeds c t h planned program kept after =
+returns-in-Err-clause-succeeds c t h planned program kept plannable =
     absurd
-    (turn-denied t h planned c.word.result c.args.program.now c.args.state.now c.args.turn.now
-    c.moment.result c.in-Err.why program kept after
-    c.word.ensures.value c.word.type_inv c.moment.ensures.value c.in-Err.ensures.err)
+    (turn-denied t h planned c.args.program.now c.args.state.now c.args.turn.now c.in-Err.why
+    program kept plannable.0 c.open_for_turn.ensures.word plannable.1 c.in-Err.ensures.err)
