@@ -5,32 +5,96 @@ use std::sync::Mutex;
 use std::task::{Context, Poll, Waker};
 use std::thread::sleep;
 use std::time::{Duration, Instant};
-use zsched::{Answer, Budget, Fault, Retry, Schedule, Stepper};
+use zsched::{Budget, Driver, Fault, Retry, Schedule, Turn};
 
 static BUDGET: Budget = Budget::new(10.0, 0.5);
 
-fn word(step: &Answer) -> String {
-    let (number, next) = (u32::from(step.next.is_none()), step.next.unwrap_or(0));
-    format!("{number},{next},{},{}", step.visits, step.output)
-}
-
 /// Appends the words of a line of steps. Returns the fault of the first step that fails.
 fn steps(command: &str, text: &str, numbers: &[u64], said: &mut Vec<String>) -> Result<(), Fault> {
-    if command == "list" {
-        let mut schedule = Schedule::new(text)?;
-        return numbers.chunks(2).try_for_each(|pair| Ok(said.push(word(&schedule.after(pair[0], pair[1])?))));
-    }
-    let mut stepper = Stepper::new(text)?;
+    let mut schedule = Schedule::new(text)?;
     for pair in numbers.chunks(2) {
         if command == "stored" {
-            stepper = Stepper::resume(text, stepper.state())?;
+            schedule = Schedule::resume(text, schedule.state())?;
         }
-        let next = stepper.clone().next_after(pair[0], pair[1]);
-        let step = stepper.after(pair[0], pair[1]);
-        assert_eq!(next, step.clone().map(|it| it.next));
-        said.push(word(&step?));
+        let next = schedule.after(pair[0], pair[1])?;
+        said.push(format!("{},{},{}", u32::from(next.is_none()), next.unwrap_or(0), schedule.output()?));
     }
     Ok(())
+}
+
+/// Appends the words of a line of turns. Returns the fault of the first turn that fails.
+fn plan(text: &str, numbers: &[u64], said: &mut Vec<String>) -> Result<(), Fault> {
+    let (mut schedule, milliseconds, nanos) = (Schedule::new(text)?, Duration::from_millis, Duration::from_nanos);
+    for four in numbers[3..].chunks(4) {
+        let [began, ended, input, draw] = four[..] else { panic!("four numbers") };
+        let begin = schedule.plan(Turn {
+            began: nanos(began),
+            ended: nanos(ended),
+            input,
+            least: milliseconds(numbers[1]),
+            longest: milliseconds(numbers[2]),
+            jitter: numbers[0] as f64 / 100.0,
+            draw: Some(draw as u32),
+        })?;
+        said.push(format!("{},{}", u32::from(begin.is_none()), begin.unwrap_or_default().as_nanos()));
+    }
+    Ok(())
+}
+
+/// Makes attempts by a clock that is set back before the third one, each by a new schedule.
+fn restarted(text: &str, numbers: &[u64]) -> Result<String, Fault> {
+    const START: u128 = 1_000_000_000_000_000_000;
+    let [code, back, most] = numbers[..] else { panic!("three numbers") };
+    let (mut state, mut clock, mut attempts, mut last) = (Schedule::new(text)?.state().to_owned(), START, 0, 0);
+    while attempts < most {
+        attempts += 1;
+        if attempts == 3 {
+            clock -= Duration::from_millis(back).as_nanos();
+        }
+        let now = Duration::from_nanos(clock.saturating_sub(START) as u64);
+        let mut schedule = Schedule::resume(text, &state)?;
+        let Some(begin) = schedule.plan(Turn { began: now, ended: now, input: code, ..Turn::default() })? else {
+            break;
+        };
+        (state, last) = (schedule.state().to_owned(), begin.as_nanos());
+        clock = START + last;
+    }
+    Ok(format!("{attempts} {last}"))
+}
+
+/// Retries an effect that always fails, and notes what is called. The call is cancelled if its future is dropped.
+fn order(text: &str, what: &str) -> Result<String, Fault> {
+    let budget = if what == "broke" { Budget::new(1.0, 0.0) } else { Budget::new(10.0, 0.5) };
+    let said = Mutex::new(Vec::new());
+    let say = |word: &str| said.lock().expect("one thread").push(word.to_owned());
+    let input_of = |code: &u64| {
+        say("input");
+        *code
+    };
+    let least_of = |_: &u64| {
+        say("least");
+        None
+    };
+    let retry = Retry::new(text)?.when(|_| what != "unretried").input_of(input_of).retry_after(least_of);
+    let retry = retry.notify(|_, _, _| say("sleep")).budget(&budget);
+    if what == "cancelled" {
+        let attempt = || {
+            say("attempt");
+            std::future::pending::<Result<(), u64>>()
+        };
+        let mut call = pin!(retry.call_async(attempt, sleep_async));
+        assert!(call.as_mut().poll(&mut Context::from_waker(Waker::noop())).is_pending());
+        say("cancelled");
+    } else {
+        let ended = retry.call(|| {
+            say("attempt");
+            Err::<(), u64>(7)
+        });
+        say(&ended.expect_err("a failure").to_string());
+    }
+    say(&format!("{:.1}", budget.tokens()));
+    drop(retry);
+    Ok(said.into_inner().expect("one thread").join(" "))
 }
 
 /// Polls a future each millisecond, and returns what it returns.
@@ -63,7 +127,11 @@ fn retry(command: &str, text: &str, numbers: &[u64]) -> Vec<String> {
     let mut attempt = || {
         say(start.elapsed().as_micros().to_string());
         attempts += 1;
-        if attempts <= times { Err(code) } else { Ok("done".to_owned()) }
+        if attempts <= times {
+            Err(code)
+        } else {
+            Ok("done".to_owned())
+        }
     };
     let ended = match command {
         "later" => block_on(retry.call_async(|| std::future::ready(attempt()), sleep_async)),
@@ -114,7 +182,11 @@ fn limited(command: &str, text: &str, numbers: &[u64]) -> Vec<String> {
             if is_slow {
                 sleep(retry.limit().unwrap_or(Duration::from_secs(5)));
             }
-            if is_slow { Err(code) } else { Ok("done".to_owned()) }
+            if is_slow {
+                Err(code)
+            } else {
+                Ok("done".to_owned())
+            }
         }),
     };
     let mut words = vec![ended.unwrap_or_else(|failed| failed.to_string())];
@@ -131,20 +203,26 @@ fn good(text: &str, count: u64) -> u128 {
 }
 
 fn bounds(text: &str, numbers: &[u64], said: &mut Vec<String>) -> Result<(), Fault> {
-    let found = match *numbers {
-        [steps, least, most] => zsched::bounds_for(text, steps, least, Some(most))?,
-        _ => zsched::bounds(text, numbers[0])?,
+    let driver = match numbers[1..] {
+        [] => Driver::default(),
+        [least, most] => Driver { least, most: Some(most), ..Driver::default() },
+        [least, most, jitter, asked, late] => {
+            Driver { least, most: Some(most), jitter: jitter as f64 / 100.0, asked, late }
+        }
+        _ => panic!("one, three or six numbers"),
     };
+    let found = zsched::bounds(text, numbers[0], driver)?;
     let limit = |limit: Option<u64>| [u64::from(limit.is_some()), limit.unwrap_or(0)];
-    let words = [&[found.seen, found.least], &limit(found.most)[..], &[found.longest], &limit(found.total), &limit(found.longest_run)];
+    let (most, total, run) = (limit(found.most), limit(found.total), limit(found.longest_run));
+    let words = [&[found.seen, found.least], &most[..], &[found.longest], &total, &run];
     said.extend(words.concat().iter().map(u64::to_string));
     Ok(())
 }
 
 fn many(text: &str, count: u64) -> Result<(), Fault> {
-    let (mut schedule, mut moment) = (Stepper::new(text)?, 0);
+    let (mut schedule, mut moment) = (Schedule::new(text)?, 0);
     for number in 1..=count {
-        moment = schedule.after(moment, 503)?.next.expect("a policy without an end");
+        moment = schedule.after(moment, 503)?.expect("a policy without an end");
         if number % (count / 10) == 0 {
             println!();
         }
@@ -154,7 +232,7 @@ fn many(text: &str, count: u64) -> Result<(), Fault> {
 
 fn moved(texts: &str) -> Result<(), Fault> {
     let (first, second) = texts.split_once('\n').expect("two lines");
-    Stepper::resume(second, Stepper::new(first)?.state()).map(drop)
+    Schedule::resume(second, Schedule::new(first)?.state()).map(drop)
 }
 
 fn main() {
@@ -163,7 +241,7 @@ fn main() {
         let words: Vec<&str> = request.split(' ').collect();
         let byte = |at| u8::from_str_radix(&words[1][at..at + 2], 16).expect("digits");
         let text = String::from_utf8((1..words[1].len()).step_by(2).map(byte).collect()).expect("UTF-8");
-        let numbers: Vec<u64> = words[2..].iter().map(|it| it.parse().expect("a number")).collect();
+        let numbers: Vec<u64> = words[2..].iter().map_while(|it| it.parse().ok()).collect();
         let mut said = Vec::new();
         let ended = match words[0] {
             "version" => Ok(said.push(zsched::version().to_string())),
@@ -172,6 +250,9 @@ fn main() {
             "limited" | "limited_later" => Ok(said = limited(words[0], &text, &numbers)),
             "good" => Ok(said.push(good(&text, numbers[0]).to_string())),
             "bounds" => bounds(&text, &numbers, &mut said),
+            "plan" => plan(&text, &numbers, &mut said),
+            "restarted" => restarted(&text, &numbers).map(|it| said.push(it)),
+            "order" => order(&text, words[2]).map(|it| said.push(it)),
             "many" => many(&text, numbers[0]),
             command => steps(command, &text, &numbers, &mut said),
         };

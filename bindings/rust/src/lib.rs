@@ -1,17 +1,18 @@
 //! Retries by the proved schedules of zsched.
 //!
 //! ```
-//! use zsched::Schedule;
+//! use std::time::Duration;
+//! use zsched::{Schedule, Turn};
 //!
 //! let mut schedule = Schedule::new("(exponential(100) && recurs(5))")?;
-//! let step = schedule.after(7, 503)?;
-//! assert_eq!((step.next, step.output.as_str()), (Some(107), "(100,0)"));
+//! let turn = Turn { ended: Duration::from_millis(7), input: 503, ..Turn::default() };
+//! assert_eq!(schedule.plan(turn)?, Some(Duration::from_millis(107)));
 //! # Ok::<(), zsched::Fault>(())
 //! ```
 //!
-//! `Schedule` doesn't sleep, and neither does `Stepper`, whose state has a fixed size; `retry` and
-//! `Retry` really sleep. `bounds` returns how often and how long a schedule retries at most. These
-//! results are proved, the sleeping is not.
+//! [`Schedule`] doesn't sleep: it returns when the next attempt may begin. `retry` and `Retry` sleep
+//! until then. [`bounds`] returns how often and how long a schedule retries at most. What the library
+//! returns is proved, the sleeping is not.
 //!
 //! Without the feature `std`, which is on by default, everything but the retries is available, over
 //! `alloc`.
@@ -26,106 +27,59 @@ use alloc::sync::Arc;
 use alloc::vec;
 use alloc::vec::Vec;
 use core::fmt;
+use core::time::Duration;
 
 #[cfg(feature = "std")]
 mod retries;
 #[cfg(feature = "std")]
 pub use retries::{retry, Budget, Failed, Retry};
 
-/// What a schedule saw at one step.
 #[repr(C)]
-#[derive(Clone, Copy, Debug, PartialEq, Eq)]
-pub struct Seen {
-    /// The moment, in milliseconds from any start.
-    pub moment: u64,
-    /// The input, any number.
-    pub input: u64,
-}
-
-#[repr(C)]
-#[derive(Default)]
-struct Reply {
-    next: u64,
+struct RawTurn {
     size: u64,
-    visits: u64,
-    at: u64,
-}
-
-#[repr(C)]
-#[derive(Default)]
-struct Told {
-    seen: u64,
+    began: u64,
+    ended: u64,
+    input: u64,
     least: u64,
-    has_most: u64,
-    most: u64,
     longest: u64,
-    has_total: u64,
-    total: u64,
-    has_longest_run: u64,
-    longest_run: u64,
+    percent: u32,
+    draw: u32,
 }
 
-#[repr(C)]
-struct Durations {
-    least: u64,
-    has_most: u64,
-    most: u64,
-}
-
+#[rustfmt::skip]
 extern "C" {
-    fn zs_check(text: *const u8, text_len: usize, at: *mut u64) -> u32;
-    #[rustfmt::skip]
-    fn zs_answer(text: *const u8, text_len: usize, seen: *const Seen, seen_len: usize,
-        reply: *mut Reply, out: *mut u8, out_len: usize) -> u32;
-    #[rustfmt::skip]
-    fn zs_bounds(text: *const u8, text_len: usize, durations: *const Durations, steps: u64,
-        bounds: *mut Told, at: *mut u64) -> u32;
-    fn zs_program_size(text: *const u8, text_len: usize, size: *mut u64, state_size: *mut u64, at: *mut u64) -> u32;
+    fn zs_bounds(text: *const u8, text_len: usize, driver: *const [u64; 8], steps: u64, bounds: *mut [u64; 10],
+        at: *mut u64) -> u32;
+    fn zs_program_size(text: *const u8, text_len: usize, size: *mut usize, state_size: *mut usize, at: *mut u64) -> u32;
     fn zs_compile(text: *const u8, text_len: usize, program: *mut u64, program_len: usize, at: *mut u64) -> u32;
     fn zs_program_begin(program: *const u64, program_len: usize, state: *mut u64, state_len: usize) -> u32;
-    #[rustfmt::skip]
-    fn zs_program_step(program: *const u64, program_len: usize, state: *mut u64, state_len: usize,
-        moment: u64, input: u64, reply: *mut Reply, out: *mut u8, out_len: usize) -> u32;
-    fn zs_fault_text(number: u32, at: u64, out: *mut u8, out_len: usize) -> u64;
+    fn zs_plan(program: *const u64, program_len: usize, state: *mut u64, state_len: usize, turn: *const RawTurn,
+        begin: *mut u64) -> u32;
+    fn zs_program_step(program: *const u64, program_len: usize, state: *mut u64, state_len: usize, moment: u64,
+        input: u64, next: *mut u64, visits: *mut u64) -> u32;
+    fn zs_output(program: *const u64, program_len: usize, state: *const u64, state_len: usize, out: *mut u8,
+        out_len: usize, size: *mut usize) -> u32;
+    fn zs_strerror(number: u32, at: u64, out: *mut u8, out_len: usize) -> usize;
     fn zs_version() -> u32;
-}
-
-const NEXT: u32 = 0;
-const DONE: u32 = 1;
-const FALLS: u32 = 3;
-const ROOM: usize = 256;
-
-/// The result of a step.
-#[derive(Clone, Debug, PartialEq, Eq)]
-pub struct Answer {
-    /// The moment at which the next attempt may begin, in milliseconds; `None` if the schedule is
-    /// done.
-    pub next: Option<u64>,
-    /// The text of the step's output.
-    pub output: String,
-    /// The number of nodes of the schedule that the step visited.
-    pub visits: u64,
 }
 
 /// Why a call failed.
 #[derive(Clone, Copy, Debug, PartialEq, Eq)]
 pub enum Fault {
-    /// The list has no step.
-    NoPair,
-    /// The moment of the step `at`, from 0, is below that of the step before it.
-    Falls { at: u64 },
-    /// The moment is below that of the last step of the `Stepper`.
-    Earlier,
-    /// The schedule has `collectAll`, so its state has no fixed size.
+    /// The schedule made no step yet, so it has no output.
+    NoStep,
+    /// The moment is below that of the last step.
+    Falls,
+    /// An allocation failed.
+    Memory,
+    /// The schedule has `collectAll`, so its state would grow with the steps.
     KeepsList,
     /// The words are no program of this version of the library.
     NoProgram,
     /// The words of a state are those of another schedule.
     OtherState,
-    /// No attempt takes these durations: the least is 0, or above the most.
-    NoDuration,
-    /// An allocation failed.
-    Memory,
+    /// No driver does what a `Driver` says.
+    NoDriver,
     /// The text spells no schedule, found at the byte `at`.
     NoTerm { at: u64 },
     /// The schedule is deeper than 64 or weighs more than 1,000.
@@ -138,36 +92,39 @@ pub enum Fault {
     NoKind,
     /// A window of a `windowed` is 0.
     BadWindow,
+    /// The library that is linked is of another version.
+    OtherSize,
 }
 
 impl Fault {
-    fn of(number: u32, at: u64) -> Fault {
-        match number {
-            2 => Fault::NoPair,
-            3 => Fault::Falls { at },
+    /// Returns the fault of a number that a call on a text in UTF-8 returned, with its place.
+    fn of(number: u32, at: u64) -> Option<Fault> {
+        Some(match number {
+            2 => Fault::NoStep,
+            3 => Fault::Falls,
             5 => Fault::Memory,
             6 => Fault::KeepsList,
             8 => Fault::NoProgram,
             9 => Fault::OtherState,
-            10 => Fault::NoDuration,
+            10 => Fault::NoDriver,
             11 => Fault::NoTerm { at },
             12 => Fault::TooBig,
             13 => Fault::BadNumber { at },
             14 => Fault::BadFactor,
             15 => Fault::NoKind,
             16 => Fault::BadWindow,
-            _ => unreachable!("libzsched returned {number}, which zsched.h doesn't name for a text in UTF-8"),
-        }
+            17 => Fault::OtherSize,
+            _ => return None,
+        })
     }
 
     /// Returns its number and place, as `zsched.h` defines them; the place is 0 if it has none.
     pub fn number(self) -> (u32, u64) {
         let at = match self {
-            Fault::Falls { at } | Fault::NoTerm { at } | Fault::BadNumber { at } => at,
+            Fault::NoTerm { at } | Fault::BadNumber { at } => at,
             _ => 0,
         };
-        let is_it = |number: &u32| !matches!(number, 4 | 7) && Fault::of(*number, at) == self;
-        ((2..=16).find(is_it).unwrap_or(FALLS), at)
+        ((2..=17).find(|number| Fault::of(*number, at) == Some(self)).unwrap_or(0), at)
     }
 }
 
@@ -175,14 +132,22 @@ impl fmt::Display for Fault {
     /// Writes the library's text.
     fn fmt(&self, f: &mut fmt::Formatter<'_>) -> fmt::Result {
         let (number, at) = self.number();
-        let mut out = [0; ROOM];
+        let mut out = [0; 80];
         // SAFETY: the pointer and the length are those of an array that is borrowed for the call.
-        let size = unsafe { zs_fault_text(number, at, out.as_mut_ptr(), out.len()) } as usize;
-        f.write_str(core::str::from_utf8(&out[..size.min(ROOM)]).map_err(|_| fmt::Error)?)
+        let size = unsafe { zs_strerror(number, at, out.as_mut_ptr(), out.len()) };
+        f.write_str(core::str::from_utf8(&out[..size.min(out.len())]).map_err(|_| fmt::Error)?)
     }
 }
 
 impl core::error::Error for Fault {}
+
+/// Returns whether a call returned that the schedule continues, or the fault that it returned.
+fn continues(number: u32, at: u64) -> Result<bool, Fault> {
+    match number {
+        0 | 1 => Ok(number == 0),
+        _ => Err(Fault::of(number, at).unwrap_or_else(|| unreachable!("libzsched returned {number}"))),
+    }
+}
 
 /// Returns the version of the library as one number: 1000000 * major + 1000 * minor + patch.
 pub fn version() -> u32 {
@@ -190,20 +155,35 @@ pub fn version() -> u32 {
     unsafe { zs_version() }
 }
 
-/// Checks that a text is a schedule; returns its first fault if it is none.
-pub fn check(text: &str) -> Result<(), Fault> {
-    let mut at = 0;
-    // SAFETY: the pointer and the length are those of a text that is borrowed for the call, and
-    // `at` is a variable.
-    refuse(unsafe { zs_check(text.as_ptr(), text.len(), &mut at) }, at)
+/// Returns a share as whole percent, if it is from 0 to 1.
+fn percent(share: f64) -> Option<u32> {
+    (0.0..=1.0).contains(&share).then_some((share * 100.0 + 0.5) as u32)
 }
 
-/// Returns the fault that a number represents, if it is one.
-fn refuse(number: u32, at: u64) -> Result<(), Fault> {
-    if number <= DONE { Ok(()) } else { Err(Fault::of(number, at)) }
+/// What a driver of a schedule may do, such as a loop that retries. Times are in milliseconds.
+///
+/// By default attempts take 1 millisecond or more, and waits are the schedule's.
+#[derive(Clone, Copy, Debug, PartialEq)]
+pub struct Driver {
+    /// No attempt takes less: 1 or more.
+    pub least: u64,
+    /// No attempt takes more, if there is such a limit: `least` or more.
+    pub most: Option<u64>,
+    /// The share of each wait that jitter may take off, from 0 to 1, in whole percent.
+    pub jitter: f64,
+    /// The longest least wait that a service may ask for, as by `Retry-After`.
+    pub asked: u64,
+    /// How late an attempt may begin; `u64::MAX` is any lateness.
+    pub late: u64,
 }
 
-/// What a schedule does for every input, if each attempt takes as long as was given and no moment is
+impl Default for Driver {
+    fn default() -> Driver {
+        Driver { least: 1, most: None, jitter: 0.0, asked: 0, late: 0 }
+    }
+}
+
+/// What a schedule does for every input, with any driver that does what was given, if no moment is
 /// above 999999999999999. Times are in milliseconds.
 #[derive(Clone, Copy, Debug, PartialEq, Eq)]
 pub struct Bounds {
@@ -234,156 +214,135 @@ impl Bounds {
 }
 
 /// Returns the bounds of a text's schedule, of which at most the first `steps` attempts are examined.
-/// Each attempt takes 1 millisecond or more.
+/// Fails with the fault of the text, or `NoDriver`.
 ///
 /// ```
-/// let bounds = zsched::bounds("(exponential(100) && recurs(5))", 1000)?;
-/// assert!(bounds.within(6, 3100) && !bounds.within(5, 3100));
-/// # Ok::<(), zsched::Fault>(())
-/// ```
-pub fn bounds(text: &str, steps: u64) -> Result<Bounds, Fault> {
-    bounds_for(text, steps, 1, None)
-}
-
-/// Does the same if each attempt takes `least` to `most` milliseconds; `None` is no such limit.
+/// use zsched::{bounds, Driver};
 ///
-/// ```
-/// assert!(zsched::bounds_for("(exponential(100) && recurs(4))", 1000, 1, Some(5000))?.ends_within(30_000));
+/// assert!(bounds("(exponential(100) && recurs(5))", 1000, Driver::default())?.within(6, 3100));
+/// let driver = Driver { most: Some(5000), jitter: 0.5, ..Driver::default() };
+/// assert!(bounds("(exponential(100) && recurs(4))", 1000, driver)?.ends_within(30_000));
 /// # Ok::<(), zsched::Fault>(())
 /// ```
-pub fn bounds_for(text: &str, steps: u64, least: u64, most: Option<u64>) -> Result<Bounds, Fault> {
-    let (mut found, mut at) = (Told::default(), 0);
-    let durations = Durations { least, has_most: most.is_some().into(), most: most.unwrap_or(0) };
+pub fn bounds(text: &str, steps: u64, driver: Driver) -> Result<Bounds, Fault> {
+    let percent = u64::from(percent(driver.jitter).ok_or(Fault::NoDriver)?);
+    let (has_most, most) = (driver.most.is_some().into(), driver.most.unwrap_or(0));
+    // The structs of zsched.h, whose fields all have 64 bits. The first is the size in bytes.
+    let driver = [64, driver.least, has_most, most, 100 - percent, 100, driver.asked, driver.late];
+    let (mut found, mut at) = ([80, 0, 0, 0, 0, 0, 0, 0, 0, 0], 0);
     // SAFETY: the pointer and the length are those of a text that is borrowed for the call, and the
     // others are variables.
-    refuse(unsafe { zs_bounds(text.as_ptr(), text.len(), &durations, steps, &mut found, &mut at) }, at)?;
+    continues(unsafe { zs_bounds(text.as_ptr(), text.len(), &driver, steps, &mut found, &mut at) }, at)?;
+    let [_, seen, least, has_most, most, longest, has_total, total, has_longest_run, longest_run] = found;
     let limit = |is_there: u64, value| (is_there == 1).then_some(value);
-    let (most, total) = (limit(found.has_most, found.most), limit(found.has_total, found.total));
-    let longest_run = limit(found.has_longest_run, found.longest_run);
-    Ok(Bounds { seen: found.seen, least: found.least, most, longest: found.longest, total, longest_run })
+    let (most, total) = (limit(has_most, most), limit(has_total, total));
+    Ok(Bounds { seen, least, most, longest, total, longest_run: limit(has_longest_run, longest_run) })
 }
 
-/// Returns the result of a text's schedule at the last of some steps, which are in order, oldest
-/// first.
-pub fn answer(text: &str, seen: &[Seen]) -> Result<Answer, Fault> {
-    let mut out = vec![0; ROOM];
-    let (mut number, mut reply) = call(text, seen, &mut out);
-    if reply.size > out.len() as u64 {
-        out.resize(reply.size as usize, 0);
-        (number, reply) = call(text, seen, &mut out);
-    }
-    result_of(number, &reply, &out)
-}
-
-fn result_of(number: u32, reply: &Reply, out: &[u8]) -> Result<Answer, Fault> {
-    refuse(number, reply.at)?;
-    let output = core::str::from_utf8(&out[..reply.size as usize]).expect("an output's text is ASCII").to_owned();
-    Ok(Answer { next: (number == NEXT).then_some(reply.next), output, visits: reply.visits })
-}
-
-fn call(text: &str, seen: &[Seen], out: &mut [u8]) -> (u32, Reply) {
-    let mut reply = Reply::default();
-    // SAFETY: the pointers and lengths are those of slices that are borrowed for the call. Only
-    // `out` and `reply` are borrowed mutably, so they overlap nothing. `zs_answer` requires no more
-    // of its arguments.
-    let number = unsafe {
-        zs_answer(text.as_ptr(), text.len(), seen.as_ptr(), seen.len(), &mut reply, out.as_mut_ptr(), out.len())
-    };
-    (number, reply)
-}
-
-/// A schedule and the steps that it has seen, which are its whole state.
-#[derive(Clone, Debug, PartialEq, Eq)]
-pub struct Schedule {
-    text: String,
-    seen: Vec<Seen>,
-}
-
-impl Schedule {
-    /// Returns the schedule of a text, before its first step.
-    pub fn new(text: &str) -> Result<Schedule, Fault> {
-        check(text)?;
-        Ok(Schedule { text: text.to_owned(), seen: Vec::new() })
-    }
-
-    /// Returns the schedule of a text that has seen these steps, oldest first.
-    pub fn resume(text: &str, seen: Vec<Seen>) -> Result<Schedule, Fault> {
-        if seen.is_empty() {
-            return Schedule::new(text);
-        }
-        answer(text, &seen)?;
-        Ok(Schedule { text: text.to_owned(), seen })
-    }
-
-    /// Returns the text.
-    pub fn text(&self) -> &str {
-        &self.text
-    }
-
-    /// Returns the steps so far, oldest first.
-    pub fn seen(&self) -> &[Seen] {
-        &self.seen
-    }
-
-    /// Makes one more step, at a moment in milliseconds and with an input, and returns its result.
-    ///
-    /// After a fault the schedule is unchanged.
-    pub fn after(&mut self, moment: u64, input: u64) -> Result<Answer, Fault> {
-        self.seen.push(Seen { moment, input });
-        answer(&self.text, &self.seen).inspect_err(|_| {
-            self.seen.pop();
-        })
-    }
-}
-
-/// A schedule with a state of fixed size in place of its steps.
+/// One failed attempt of a loop, by the loop's clock.
 ///
-/// So a step takes no longer after many steps than after one. Its text is read once.
+/// By default it began and ended at 0, and the longest least wait is an hour.
+#[derive(Clone, Copy, Debug, PartialEq)]
+pub struct Turn {
+    /// When the attempt began, from the begin of the first attempt.
+    pub began: Duration,
+    /// When it ended. If that is before `began`, the clock fell, and counts as one that stood still.
+    pub ended: Duration,
+    /// The input of the schedule: the error's code, or any number.
+    pub input: u64,
+    /// The least wait that a service asked for, as by `Retry-After`: rounded up to milliseconds.
+    pub least: Duration,
+    /// The longest least wait that counts: rounded down to milliseconds.
+    pub longest: Duration,
+    /// The share of the schedule's wait that jitter may take off, from 0 to 1, in whole percent.
+    pub jitter: f64,
+    /// How much of that jitter takes off, as a fraction of 2^32: `None` is random, and 0 without the
+    /// feature `std`.
+    pub draw: Option<u32>,
+}
+
+impl Default for Turn {
+    fn default() -> Turn {
+        let (zero, hour) = (Duration::ZERO, Duration::from_secs(3600));
+        Turn { began: zero, ended: zero, input: 0, least: zero, longest: hour, jitter: 0.0, draw: None }
+    }
+}
+
+/// Returns 32 random bits: each `RandomState` has other keys.
+#[cfg(feature = "std")]
+fn random() -> u32 {
+    use std::hash::{BuildHasher, RandomState};
+    RandomState::new().hash_one(0) as u32
+}
+
+#[cfg(not(feature = "std"))]
+fn random() -> u32 {
+    0
+}
+
+/// Returns a number, or the largest of 64 bits if it has more.
+fn saturated(number: u128) -> u64 {
+    number.try_into().unwrap_or(u64::MAX)
+}
+
+/// A schedule and its state, whose size depends on the text alone.
+///
+/// So a step takes no longer after many steps than after one. The text is compiled once: clones share
+/// the program, and each has its own state.
 ///
 /// ```
-/// use zsched::{Fault, Stepper};
+/// use zsched::{Fault, Schedule};
 ///
-/// let mut stepper = Stepper::new("(exponential(100) && recurs(5))")?;
-/// assert_eq!(stepper.after(7, 503)?.next, Some(107));
-/// assert_eq!(stepper.after(6, 503), Err(Fault::Earlier));
-/// let mut again = Stepper::resume(stepper.text(), stepper.state())?;
-/// assert_eq!(again.after(107, 503)?.next, Some(307));
-/// assert_eq!(Stepper::resume("(spaced(100) && recurs(5))", stepper.state()), Err(Fault::OtherState));
-/// assert_eq!(Stepper::new("forever.collectAll"), Err(Fault::KeepsList));
+/// let mut schedule = Schedule::new("(exponential(100) && recurs(5))")?;
+/// assert_eq!(schedule.after(7, 503)?, Some(107));
+/// assert_eq!(schedule.output()?, "(100,0)");
+/// assert_eq!(schedule.after(6, 503), Err(Fault::Falls));
+/// let mut again = Schedule::resume(schedule.text(), schedule.state())?;
+/// assert_eq!(again.after(107, 503)?, Some(307));
+/// assert_eq!(again.fresh().after(7, 503)?, Some(107));
+/// assert_eq!(Schedule::resume("(spaced(100) && recurs(5))", again.state()), Err(Fault::OtherState));
+/// assert_eq!(Schedule::new("forever.collectAll"), Err(Fault::KeepsList));
 /// # Ok::<(), Fault>(())
 /// ```
 #[derive(Clone, Debug, PartialEq, Eq)]
-pub struct Stepper {
-    // Its text and its program, which clones share.
+pub struct Schedule {
+    // Its text and its program.
     of: Arc<(String, Vec<u64>)>,
     state: Vec<u64>,
 }
 
-impl Stepper {
-    /// Returns the schedule of a text, before its first step.
-    pub fn new(text: &str) -> Result<Stepper, Fault> {
+impl Schedule {
+    /// Returns the schedule of a text, before its first step. Fails with the fault of the text.
+    pub fn new(text: &str) -> Result<Schedule, Fault> {
         let (mut size, mut state_size, mut at) = (0, 0, 0);
         // SAFETY: the pointer and the length are those of a text that is borrowed for the call, and
         // the others are variables.
-        refuse(unsafe { zs_program_size(text.as_ptr(), text.len(), &mut size, &mut state_size, &mut at) }, at)?;
-        let (mut program, mut state) = (vec![0; size as usize], vec![0; state_size as usize]);
+        continues(unsafe { zs_program_size(text.as_ptr(), text.len(), &mut size, &mut state_size, &mut at) }, at)?;
+        let mut program = vec![0; size];
         // SAFETY: as above, and the words are borrowed for the call.
-        refuse(unsafe { zs_compile(text.as_ptr(), text.len(), program.as_mut_ptr(), program.len(), &mut at) }, at)?;
-        // SAFETY: the pointers and lengths are those of words that are borrowed for the call.
-        refuse(unsafe { zs_program_begin(program.as_ptr(), program.len(), state.as_mut_ptr(), state.len()) }, 0)?;
-        Ok(Stepper { of: Arc::new((text.to_owned(), program)), state })
+        continues(unsafe { zs_compile(text.as_ptr(), text.len(), program.as_mut_ptr(), size, &mut at) }, at)?;
+        Ok(Schedule { of: Arc::new((text.to_owned(), program)), state: vec![0; state_size] }.fresh())
     }
 
-    /// Returns the schedule of a text with a state that `state` returned, or `OtherState`.
+    /// Returns the schedule of a text with a state that `state` returned. Fails with the fault of the
+    /// text, or `OtherState`.
     ///
     /// Words that were changed after the first aren't detected.
-    pub fn resume(text: &str, state: &[u64]) -> Result<Stepper, Fault> {
-        let mut stepper = Stepper::new(text)?;
-        if state.len() != stepper.state.len() || state[0] != stepper.state[0] {
+    pub fn resume(text: &str, state: &[u64]) -> Result<Schedule, Fault> {
+        let schedule = Schedule::new(text)?;
+        if state.len() != schedule.state.len() || state[0] != schedule.state[0] {
             return Err(Fault::OtherState);
         }
-        stepper.state.copy_from_slice(state);
-        Ok(stepper)
+        Ok(Schedule { state: state.to_owned(), ..schedule })
+    }
+
+    /// Returns a schedule of the same program, before its first step.
+    pub fn fresh(&self) -> Schedule {
+        let (of, mut state) = (self.of.clone(), vec![0; self.state.len()]);
+        // SAFETY: the pointers and lengths are those of words that are borrowed for the call.
+        let number = unsafe { zs_program_begin(of.1.as_ptr(), of.1.len(), state.as_mut_ptr(), state.len()) };
+        continues(number, 0).expect("a program and the size of its state");
+        Schedule { of, state }
     }
 
     /// Returns the text.
@@ -398,42 +357,60 @@ impl Stepper {
         &self.state
     }
 
-    /// Makes one more step, at a moment in milliseconds and with an input, and returns its result.
+    /// Makes a step at the end of a loop's attempt, and plans the next one. Returns when it may begin,
+    /// from the begin of the first attempt; `None` if the loop gives up.
     ///
-    /// After a fault the schedule is unchanged.
-    pub fn after(&mut self, moment: u64, input: u64) -> Result<Answer, Fault> {
-        let (mut out, before) = ([0; ROOM], self.state.clone());
-        let (number, reply) = self.step(moment, input, &mut out)?;
-        if reply.size <= ROOM as u64 {
-            return result_of(number, &reply, &out);
-        }
-        let mut out = vec![0; reply.size as usize];
-        self.state = before;
-        let (number, reply) = self.step(moment, input, &mut out)?;
-        result_of(number, &reply, &out)
-    }
-
-    /// Makes the same step, and returns only the moment at which the next attempt may begin; `None`
-    /// if the schedule is done. It allocates nothing.
-    pub fn next_after(&mut self, moment: u64, input: u64) -> Result<Option<u64>, Fault> {
-        self.step(moment, input, &mut []).map(|(number, reply)| (number == NEXT).then_some(reply.next))
-    }
-
-    /// Makes a step, and returns what the library returned. After a fault the state is unchanged.
-    fn step(&mut self, moment: u64, input: u64, out: &mut [u8]) -> Result<(u32, Reply), Fault> {
-        let mut reply = Reply::default();
-        let (program, len) = (self.of.1.as_ptr(), self.of.1.len());
-        let (state, state_len) = (self.state.as_mut_ptr(), self.state.len());
-        // SAFETY: the pointers and lengths are those of slices that are borrowed for the call. All
-        // but the program are borrowed mutably, so they overlap nothing. `zs_program_step` requires
-        // no more of its arguments.
-        let number = unsafe {
-            zs_program_step(program, len, state, state_len, moment, input, &mut reply, out.as_mut_ptr(), out.len())
+    /// A loop that is planned so makes at most `most` attempts, whatever its clock does. Without jitter
+    /// no attempt is planned before the schedule's moment. Fails with `Falls` only after `None` or a
+    /// step by `after`, and then is unchanged. Panics if the jitter isn't from 0 to 1.
+    pub fn plan(&mut self, turn: Turn) -> Result<Option<Duration>, Fault> {
+        let (program, state, mut begin) = (&self.of.1, &mut self.state, 0);
+        let turn = RawTurn {
+            size: size_of::<RawTurn>() as u64,
+            began: saturated(turn.began.as_nanos()),
+            ended: saturated(turn.ended.as_nanos()),
+            input: turn.input,
+            least: saturated(turn.least.as_nanos().div_ceil(1_000_000)),
+            longest: saturated(turn.longest.as_millis()),
+            percent: percent(turn.jitter).expect("zsched: a jitter is from 0 to 1"),
+            draw: turn.draw.unwrap_or_else(random),
         };
-        match number {
-            NEXT | DONE => Ok((number, reply)),
-            FALLS => Err(Fault::Earlier),
-            _ => Err(Fault::of(number, reply.at)),
+        // SAFETY: the pointers and lengths are those of words that are borrowed for the call, and the
+        // others are variables. Only the state is borrowed mutably, so they overlap nothing.
+        let number =
+            unsafe { zs_plan(program.as_ptr(), program.len(), state.as_mut_ptr(), state.len(), &turn, &mut begin) };
+        Ok(continues(number, 0)?.then_some(Duration::from_nanos(begin)))
+    }
+
+    /// Makes a step at a moment in milliseconds and with an input. Returns the moment at which the next
+    /// attempt may begin, in milliseconds; `None` if the schedule is done.
+    ///
+    /// Fails with `Falls`, and then is unchanged. A loop that retries needs `plan` instead.
+    pub fn after(&mut self, moment: u64, input: u64) -> Result<Option<u64>, Fault> {
+        let (program, state, mut next, mut visits) = (&self.of.1, &mut self.state, 0, 0);
+        let (words, len) = (state.as_mut_ptr(), state.len());
+        // SAFETY: as in `plan`.
+        let number = unsafe {
+            zs_program_step(program.as_ptr(), program.len(), words, len, moment, input, &mut next, &mut visits)
+        };
+        Ok(continues(number, 0)?.then_some(next))
+    }
+
+    /// Returns the text of the last step's output. Fails with `NoStep` before the first step.
+    pub fn output(&self) -> Result<String, Fault> {
+        let (program, state, mut out, mut size) = (&self.of.1, &self.state, vec![0; 64], 0);
+        loop {
+            let (room, len) = (out.as_mut_ptr(), out.len());
+            // SAFETY: as in `plan`, but only `out` and `size` are borrowed mutably.
+            let number = unsafe {
+                zs_output(program.as_ptr(), program.len(), state.as_ptr(), state.len(), room, len, &mut size)
+            };
+            continues(number, 0)?;
+            if size < len {
+                out.truncate(size);
+                return Ok(String::from_utf8(out).expect("an output's text is ASCII"));
+            }
+            out.resize(size + 1, 0);
         }
     }
 }

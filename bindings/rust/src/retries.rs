@@ -1,8 +1,7 @@
 //! Retries that really sleep.
-use crate::{Fault, Schedule, Stepper};
+use crate::{percent, Fault, Schedule, Turn};
 use std::fmt;
 use std::future::{poll_fn, Future};
-use std::hash::{BuildHasher, RandomState};
 use std::pin::pin;
 use std::sync::{Mutex, PoisonError};
 use std::task::Poll;
@@ -138,13 +137,11 @@ type Notify<'a, E> = Box<dyn Fn(&E, u64, Duration) + Send + Sync + 'a>;
 /// A retry by a schedule, with options. Its text is compiled once, so a call that doesn't fail costs
 /// next to nothing; threads may share it.
 ///
-/// Moments are in milliseconds from the start of the first attempt. The schedule is stepped at the
-/// moment when an attempt ended, but at least 1 millisecond after the one that it planned for it, so
-/// its `bounds` hold of each run. Without a jitter no attempt begins before its planned moment; with
-/// it an attempt that begins early counts from that moment on, so the bounds hold as without, and
-/// sleeps are never longer.
-/// Time and memory don't grow with the number of attempts, except for a schedule with `collectAll`,
-/// whose output grows.
+/// [`Schedule::plan`] returns when each attempt may begin, so each run makes at most `most` attempts,
+/// whatever the clock and the sleeps do. Time and memory don't grow with the number of attempts.
+///
+/// After an attempt that failed come, in this order: `when`, `input_of`, `retry_after`, the budget, the
+/// schedule, `notify` and the sleep.
 ///
 /// ```
 /// let mut attempts = 0;
@@ -160,31 +157,35 @@ type Notify<'a, E> = Box<dyn Fn(&E, u64, Duration) + Send + Sync + 'a>;
 /// # Ok::<(), zsched::Fault>(())
 /// ```
 pub struct Retry<'a, E> {
-    first: Follower,
+    schedule: Schedule,
     input_of: Of<'a, E, u64>,
     when: Of<'a, E, bool>,
     notify: Notify<'a, E>,
     retry_after: Of<'a, E, Option<Duration>>,
-    retry_after_most: Duration,
     attempt_most: Option<(Duration, Box<dyn Fn() -> E + Send + Sync + 'a>)>,
-    jitter: f64,
+    // What all turns have.
+    turn: Turn,
     budget: Option<&'a Budget>,
 }
 
 impl<'a, E> Retry<'a, E> {
-    /// Returns the retry of a text's schedule, or the fault of the text.
+    /// Returns the retry of a text's schedule. Fails with the fault of the text.
     pub fn new(text: &str) -> Result<Retry<'a, E>, Fault> {
-        Ok(Retry {
-            first: Follower::new(text)?,
+        Schedule::new(text).map(|schedule| Retry::of(&schedule))
+    }
+
+    /// Returns the retry of a schedule that is compiled: of its program, not of its state.
+    pub fn of(schedule: &Schedule) -> Retry<'a, E> {
+        Retry {
+            schedule: schedule.fresh(),
             input_of: Box::new(|_| 0),
             when: Box::new(|_| true),
             notify: Box::new(|_, _, _| ()),
             retry_after: Box::new(|_| None),
-            retry_after_most: Duration::from_secs(3600),
             attempt_most: None,
-            jitter: 0.0,
+            turn: Turn::default(),
             budget: None,
-        })
+        }
     }
 
     /// Sets what the schedule's input of an error is: 0 without it.
@@ -200,22 +201,22 @@ impl<'a, E> Retry<'a, E> {
     }
 
     /// Sets what is called before each sleep, with the error, the number of the attempt that failed,
-    /// from 1, and the time to sleep.
+    /// from 1, and the time from its end to the begin of the next one.
     pub fn notify(mut self, notify: impl Fn(&E, u64, Duration) + Send + Sync + 'a) -> Self {
         self.notify = Box::new(notify);
         self
     }
 
-    /// Sets how long to sleep at least after an error, such as a server's `Retry-After`. The bound of
-    /// all attempts still holds then; those of waits are the schedule's alone.
+    /// Sets how long to wait at least after an error, such as a server's `Retry-After`: rounded up to
+    /// milliseconds. The bound of all attempts still holds then.
     pub fn retry_after(mut self, least: impl Fn(&E) -> Option<Duration> + Send + Sync + 'a) -> Self {
         self.retry_after = Box::new(least);
         self
     }
 
-    /// Sets the longest sleep of `retry_after`: an hour without it. A longer one lasts as long.
+    /// Sets the longest wait of `retry_after` that is honoured: an hour without it.
     pub fn retry_after_most(mut self, most: Duration) -> Self {
-        self.retry_after_most = most;
+        self.turn.longest = most;
         self
     }
 
@@ -231,10 +232,11 @@ impl<'a, E> Retry<'a, E> {
         self.attempt_most.as_ref().map(|it| it.0)
     }
 
-    /// Shortens each sleep by a random part of it, of at most this share. Panics if that isn't from 0 to 1.
+    /// Shortens each wait by a random part of it, of at most this share, in whole percent. Panics if that
+    /// isn't from 0 to 1.
     pub fn jitter(mut self, share: f64) -> Self {
-        assert!((0.0..=1.0).contains(&share), "zsched: a jitter of {share} is not from 0 to 1");
-        self.jitter = share;
+        assert!(percent(share).is_some(), "zsched: a jitter of {share} is not from 0 to 1");
+        self.turn.jitter = share;
         self
     }
 
@@ -248,30 +250,44 @@ impl<'a, E> Retry<'a, E> {
     /// this thread.
     pub fn call<T>(&self, attempt: impl FnMut() -> Result<T, E>) -> Result<T, Failed<E>> {
         let start = Instant::now();
-        self.call_by(attempt, || start.elapsed(), std::thread::sleep)
+        let sleep_until = |begin: Duration, _| std::thread::sleep(begin.saturating_sub(start.elapsed()));
+        self.run(attempt, || start.elapsed(), sleep_until)
     }
 
     /// Retries as `call` does, with the caller's clock and sleep.
     ///
-    /// `now` returns the time from the start of the first attempt. If `sleep` ends early, a step's
-    /// moment is still at least 1 millisecond after the one that was planned for its attempt.
+    /// `now` returns the time from the begin of the first attempt; it may fall. `sleep` gets the time
+    /// from the end of the attempt to the begin of the next one by this clock, and may end early.
     pub fn call_by<T>(
+        &self,
+        attempt: impl FnMut() -> Result<T, E>,
+        now: impl FnMut() -> Duration,
+        mut sleep: impl FnMut(Duration),
+    ) -> Result<T, Failed<E>> {
+        self.run(attempt, now, |begin, ended| sleep(begin.saturating_sub(ended)))
+    }
+
+    fn run<T>(
         &self,
         mut attempt: impl FnMut() -> Result<T, E>,
         mut now: impl FnMut() -> Duration,
-        mut sleep: impl FnMut(Duration),
+        mut sleep_until: impl FnMut(Duration, Duration),
     ) -> Result<T, Failed<E>> {
         let mut run = Run::new(self);
         loop {
             match attempt() {
                 Ok(value) => return Ok(run.succeed(value)),
-                Err(error) => sleep(run.sleep_after(now(), error)?),
+                Err(error) => {
+                    let ended = now();
+                    sleep_until(run.plan(ended, error)?, ended);
+                }
             }
-            run.begin(now());
+            run.began = now();
         }
     }
 
-    /// Retries an asynchronous attempt, with an executor's sleep: `tokio::time::sleep`, say.
+    /// Retries an asynchronous attempt, with an executor's sleep: `tokio::time::sleep`, say. Who drops
+    /// the future cancels the call.
     pub async fn call_async<T, A: Future<Output = Result<T, E>>, S: Future>(
         &self,
         mut attempt: impl FnMut() -> A,
@@ -283,12 +299,12 @@ impl<'a, E> Retry<'a, E> {
                 Some((most, timed_out)) => within(attempt(), sleep(*most)).await.unwrap_or_else(|| Err(timed_out())),
                 None => attempt().await,
             };
-            let wait = match ended {
+            let begin = match ended {
                 Ok(value) => return Ok(run.succeed(value)),
-                Err(error) => run.sleep_after(start.elapsed(), error)?,
+                Err(error) => run.plan(start.elapsed(), error)?,
             };
-            sleep(wait).await;
-            run.begin(start.elapsed());
+            sleep(begin.saturating_sub(start.elapsed())).await;
+            run.began = start.elapsed();
         }
     }
 }
@@ -303,24 +319,18 @@ async fn within<T>(attempt: impl Future<Output = T>, limit: impl Future) -> Opti
     first.await
 }
 
-/// One call: its schedule, the number of attempts so far, and the planned moment of the last one.
+/// One call: its schedule, the number of attempts so far, and when the last one began.
 struct Run<'r, 'a, E> {
     of: &'r Retry<'a, E>,
     // It begins at the first error. Most calls have none.
-    schedule: Option<Follower>,
+    schedule: Option<Schedule>,
     attempts: u64,
-    planned: u64,
-    early: Duration,
+    began: Duration,
 }
 
 impl<'r, 'a, E> Run<'r, 'a, E> {
     fn new(of: &'r Retry<'a, E>) -> Self {
-        Run { of, schedule: None, attempts: 0, planned: 0, early: Duration::ZERO }
-    }
-
-    /// Notes how early an attempt begins: it counts as if it began at its planned moment.
-    fn begin(&mut self, now: Duration) {
-        self.early = Duration::from_millis(self.planned).saturating_sub(now);
+        Run { of, schedule: None, attempts: 0, began: Duration::ZERO }
     }
 
     /// Returns the value of an attempt that didn't fail.
@@ -331,55 +341,24 @@ impl<'r, 'a, E> Run<'r, 'a, E> {
         value
     }
 
-    /// Steps the schedule after an attempt that failed. Returns the time from `now` to the next one,
-    /// or the error.
-    fn sleep_after(&mut self, now: Duration, error: E) -> Result<Duration, Failed<E>> {
+    /// Steps the schedule after an attempt that failed. Returns when the next one begins, or the error.
+    fn plan(&mut self, ended: Duration, error: E) -> Result<Duration, Failed<E>> {
+        let of = self.of;
         self.attempts += 1;
-        let now = now.saturating_add(self.early);
-        let moment = (now.as_millis() as u64).max(self.planned.saturating_add(1));
-        if !(self.of.when)(&error) || self.of.budget.is_some_and(|it| !it.take()) {
+        if !(of.when)(&error) {
             return Err(Failed::Attempt(error));
         }
-        let schedule = self.schedule.get_or_insert_with(|| self.of.first.clone());
-        let Some(next) = schedule.next_after(moment, (self.of.input_of)(&error))? else {
+        let (input, least) = ((of.input_of)(&error), (of.retry_after)(&error).unwrap_or_default());
+        if of.budget.is_some_and(|it| !it.take()) {
             return Err(Failed::Attempt(error));
-        };
-        let passed = now.max(Duration::from_millis(self.planned));
-        let mut wait = Duration::from_millis(next).saturating_sub(passed);
-        if self.of.jitter > 0.0 {
-            wait = wait.min(Duration::from_millis(next - moment).mul_f64(1.0 - self.of.jitter * random()));
         }
-        wait = wait.max((self.of.retry_after)(&error).unwrap_or_default().min(self.of.retry_after_most));
-        self.planned = next;
-        (self.of.notify)(&error, self.attempts, wait);
-        Ok(wait)
-    }
-}
-
-/// Returns a random number from 0 to 1: each `RandomState` has other keys.
-fn random() -> f64 {
-    (RandomState::new().hash_one(0) >> 11) as f64 / (1_u64 << 53) as f64
-}
-
-/// A schedule with a state of fixed size; one with `collectAll` stores its steps instead.
-#[derive(Clone)]
-enum Follower {
-    Flat(Stepper),
-    Listed(Schedule),
-}
-
-impl Follower {
-    fn new(text: &str) -> Result<Follower, Fault> {
-        match Stepper::new(text) {
-            Err(Fault::KeepsList) => Schedule::new(text).map(Follower::Listed),
-            made => made.map(Follower::Flat),
-        }
-    }
-
-    fn next_after(&mut self, moment: u64, input: u64) -> Result<Option<u64>, Fault> {
-        match self {
-            Follower::Flat(stepper) => stepper.next_after(moment, input),
-            Follower::Listed(schedule) => schedule.after(moment, input).map(|result| result.next),
+        let turn = Turn { began: self.began, ended, input, least, ..of.turn };
+        match self.schedule.get_or_insert_with(|| of.schedule.clone()).plan(turn)? {
+            Some(begin) => {
+                (of.notify)(&error, self.attempts, begin.saturating_sub(ended));
+                Ok(begin)
+            }
+            None => Err(Failed::Attempt(error)),
         }
     }
 }
