@@ -360,9 +360,10 @@ impl Schedule {
     /// Makes a step at the end of a loop's attempt, and plans the next one. Returns when it may begin,
     /// from the begin of the first attempt; `None` if the loop gives up.
     ///
-    /// A loop that is planned so makes at most `most` attempts, whatever its clock does. Without jitter
-    /// no attempt is planned before the schedule's moment. Fails with `Falls` only after `None` or a
-    /// step by `after`, and then is unchanged. Panics if the jitter isn't from 0 to 1.
+    /// A loop makes at most `most` attempts, by the bounds of a driver with such jitter and least waits:
+    /// whatever its clock does, also by a state that was stored. Without jitter no attempt is planned
+    /// before the schedule's moment. Fails with `Falls` only after `None` or a step by `after`, and then
+    /// is unchanged. Panics if the jitter isn't from 0 to 1.
     pub fn plan(&mut self, turn: Turn) -> Result<Option<Duration>, Fault> {
         let (program, state, mut begin) = (&self.of.1, &mut self.state, 0);
         let turn = RawTurn {

@@ -137,11 +137,12 @@ type Notify<'a, E> = Box<dyn Fn(&E, u64, Duration) + Send + Sync + 'a>;
 /// A retry by a schedule, with options. Its text is compiled once, so a call that doesn't fail costs
 /// next to nothing; threads may share it.
 ///
-/// [`Schedule::plan`] returns when each attempt may begin, so each run makes at most `most` attempts,
-/// whatever the clock and the sleeps do. Time and memory don't grow with the number of attempts.
+/// [`Schedule::plan`] returns when each attempt may begin, so no call makes more attempts than its
+/// [`bounds`](crate::bounds) say, whatever the clock and the sleeps do. Time and memory don't grow with
+/// the number of attempts.
 ///
-/// After an attempt that failed come, in this order: `when`, `input_of`, `retry_after`, the budget, the
-/// schedule, `notify` and the sleep.
+/// An attempt that failed is followed by, in this order: `when`, `input_of`, `retry_after`, a token of
+/// the budget, the step of the schedule, `notify` and the sleep.
 ///
 /// ```
 /// let mut attempts = 0;
@@ -163,7 +164,7 @@ pub struct Retry<'a, E> {
     notify: Notify<'a, E>,
     retry_after: Of<'a, E, Option<Duration>>,
     attempt_most: Option<(Duration, Box<dyn Fn() -> E + Send + Sync + 'a>)>,
-    // What all turns have.
+    // The longest least wait and the jitter of each turn.
     turn: Turn,
     budget: Option<&'a Budget>,
 }
@@ -208,7 +209,7 @@ impl<'a, E> Retry<'a, E> {
     }
 
     /// Sets how long to wait at least after an error, such as a server's `Retry-After`: rounded up to
-    /// milliseconds. The bound of all attempts still holds then.
+    /// milliseconds. The bound of the attempts is then that of a `Driver` with this `asked`.
     pub fn retry_after(mut self, least: impl Fn(&E) -> Option<Duration> + Send + Sync + 'a) -> Self {
         self.retry_after = Box::new(least);
         self
@@ -279,15 +280,16 @@ impl<'a, E> Retry<'a, E> {
                 Ok(value) => return Ok(run.succeed(value)),
                 Err(error) => {
                     let ended = now();
-                    sleep_until(run.plan(ended, error)?, ended);
+                    sleep_until(run.plan(ended, &error)?.ok_or(Failed::Attempt(error))?, ended);
                 }
             }
             run.began = now();
         }
     }
 
-    /// Retries an asynchronous attempt, with an executor's sleep: `tokio::time::sleep`, say. Who drops
-    /// the future cancels the call.
+    /// Retries an asynchronous attempt, with an executor's sleep: `tokio::time::sleep`, say.
+    ///
+    /// Dropping the future cancels the call.
     pub async fn call_async<T, A: Future<Output = Result<T, E>>, S: Future>(
         &self,
         mut attempt: impl FnMut() -> A,
@@ -301,7 +303,7 @@ impl<'a, E> Retry<'a, E> {
             };
             let begin = match ended {
                 Ok(value) => return Ok(run.succeed(value)),
-                Err(error) => run.plan(start.elapsed(), error)?,
+                Err(error) => run.plan(start.elapsed(), &error)?.ok_or(Failed::Attempt(error))?,
             };
             sleep(begin.saturating_sub(start.elapsed())).await;
             run.began = start.elapsed();
@@ -341,24 +343,22 @@ impl<'r, 'a, E> Run<'r, 'a, E> {
         value
     }
 
-    /// Steps the schedule after an attempt that failed. Returns when the next one begins, or the error.
-    fn plan(&mut self, ended: Duration, error: E) -> Result<Duration, Failed<E>> {
+    /// Plans the next attempt after one that failed. Returns when it begins; `None` if the call gives up.
+    fn plan(&mut self, ended: Duration, error: &E) -> Result<Option<Duration>, Fault> {
         let of = self.of;
         self.attempts += 1;
-        if !(of.when)(&error) {
-            return Err(Failed::Attempt(error));
+        if !(of.when)(error) {
+            return Ok(None);
         }
-        let (input, least) = ((of.input_of)(&error), (of.retry_after)(&error).unwrap_or_default());
+        let (input, least) = ((of.input_of)(error), (of.retry_after)(error).unwrap_or_default());
         if of.budget.is_some_and(|it| !it.take()) {
-            return Err(Failed::Attempt(error));
+            return Ok(None);
         }
         let turn = Turn { began: self.began, ended, input, least, ..of.turn };
-        match self.schedule.get_or_insert_with(|| of.schedule.clone()).plan(turn)? {
-            Some(begin) => {
-                (of.notify)(&error, self.attempts, begin.saturating_sub(ended));
-                Ok(begin)
-            }
-            None => Err(Failed::Attempt(error)),
+        let planned = self.schedule.get_or_insert_with(|| of.schedule.clone()).plan(turn)?;
+        if let Some(begin) = planned {
+            (of.notify)(error, self.attempts, begin.saturating_sub(ended));
         }
+        Ok(planned)
     }
 }
