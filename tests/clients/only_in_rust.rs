@@ -1,6 +1,10 @@
 //! Tests what only the binding for Rust has.
 use std::cell::Cell;
+use std::future::{ready, Future};
+use std::pin::pin;
 use std::sync::atomic::{AtomicU64, Ordering::Relaxed};
+use std::sync::Mutex;
+use std::task::{Context, Waker};
 use std::thread;
 use std::time::Duration;
 use zsched::{bounds, version, Budget, Driver, Failed, Fault, Retry, Schedule, Turn};
@@ -226,6 +230,20 @@ fn a_clock_that_falls_is_waited_for() {
     let ended = retry.call_by(attempt, || Duration::from_millis(clock.get()), sleep);
     // The attempt in which it falls began at 35 and counts as 1 millisecond, so the next one begins at 66.
     assert_eq!((ended.is_err(), waits), (true, vec![30, 66, 30, 30, 30]));
+}
+
+#[test]
+fn a_slow_hook_does_not_delay_the_next_attempt() {
+    let (slow, said) = (Duration::from_millis(20), Mutex::new(Vec::new()));
+    let say = |wait| said.lock().expect("one thread").push(wait);
+    let retry = Retry::new("(spaced(100) && recurs(2))").expect("a schedule").notify(|_, _, wait| {
+        say(wait);
+        thread::sleep(slow);
+    });
+    let call = pin!(retry.call_async(|| ready(Err::<(), u64>(503)), |wait| ready(say(wait))));
+    assert!(call.poll(&mut Context::from_waker(Waker::noop())).is_ready());
+    let said = said.lock().expect("one thread");
+    assert!(said.len() == 4 && said.chunks(2).all(|it| it[1] + slow <= it[0]));
 }
 
 #[test]
