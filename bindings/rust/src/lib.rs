@@ -227,7 +227,7 @@ impl Bounds {
 pub fn bounds(text: &str, steps: u64, driver: Driver) -> Result<Bounds, Fault> {
     let percent = u64::from(percent(driver.jitter).ok_or(Fault::NoDriver)?);
     let (has_most, most) = (driver.most.is_some().into(), driver.most.unwrap_or(0));
-    // The structs of zsched.h, whose fields all have 64 bits. The first is the size in bytes.
+    // The structs of zsched.h. Each field has 64 bits, and the first is the size in bytes.
     let driver = [64, driver.least, has_most, most, 100 - percent, 100, driver.asked, driver.late];
     let (mut found, mut at) = ([80, 0, 0, 0, 0, 0, 0, 0, 0, 0], 0);
     // SAFETY: the pointer and the length are those of a text that is borrowed for the call, and the
@@ -281,7 +281,7 @@ fn random() -> u32 {
 }
 
 /// Returns a number, or the largest of 64 bits if it has more.
-fn saturated(number: u128) -> u64 {
+fn saturate(number: u128) -> u64 {
     number.try_into().unwrap_or(u64::MAX)
 }
 
@@ -368,11 +368,11 @@ impl Schedule {
         let (program, state, mut begin) = (&self.of.1, &mut self.state, 0);
         let turn = RawTurn {
             size: size_of::<RawTurn>() as u64,
-            began: saturated(turn.began.as_nanos()),
-            ended: saturated(turn.ended.as_nanos()),
+            began: saturate(turn.began.as_nanos()),
+            ended: saturate(turn.ended.as_nanos()),
             input: turn.input,
-            least: saturated(turn.least.as_nanos().div_ceil(1_000_000)),
-            longest: saturated(turn.longest.as_millis()),
+            least: saturate(turn.least.as_nanos().div_ceil(1_000_000)),
+            longest: saturate(turn.longest.as_millis()),
             percent: percent(turn.jitter).expect("zsched: a jitter is from 0 to 1"),
             draw: turn.draw.unwrap_or_else(random),
         };
