@@ -2,9 +2,9 @@
 
 // Package zsched retries by the proved schedules of zsched.
 //
-// A Schedule doesn't sleep, and neither does a Stepper, whose state has a fixed size; Retry and
-// RetryValue really sleep. The results are proved, the sleeping is not. BoundsOf returns how often
-// and how long a schedule retries at most. One goroutine at a time may step a Schedule or a Stepper.
+// Retry and RetryValue sleep between attempts. A Schedule is for loops that sleep by other means, or
+// that continue after a restart. BoundsOf returns how often and how long a schedule retries at most.
+// The results are proved, the sleeping is not.
 package zsched
 
 /*
@@ -14,60 +14,52 @@ package zsched
 */
 import "C"
 
-import "unsafe"
+import (
+	"fmt"
+	"hash/maphash"
+	"math"
+	"time"
+	"unsafe"
+)
 
 // Numbers of a Fault.
 const (
-	// KeepsList means that the schedule has collectAll, so it has no state of fixed size.
-	KeepsList  = 6
-	NoProgram  = 8 // the words are no program of this version of the library
-	OtherState = 9 // the words of a state are those of another schedule
+	NoStep     = 2  // there is no output before the first step
+	Falls      = 3  // the moment is below that of the last step
+	KeepsList  = 6  // the schedule has collectAll, so its state would grow with the steps
+	NoProgram  = 8  // the Schedule is a zero value
+	OtherState = 9  // the words are the state of another schedule
+	NoDriver   = 10 // no driver does what the Driver says
 )
-
-const done, room = 1, 256
-
-// Seen is what a schedule saw at one step.
-type Seen struct {
-	Moment uint64 // in milliseconds from any start
-	Input  uint64 // any number
-}
-
-// Answer is the result of a step.
-type Answer struct {
-	Done bool // true if there is no next attempt
-	// Next is the moment at which the next attempt may begin, in milliseconds, or 0 if Done.
-	Next   uint64
-	Output string // the text of the step's output
-	Visits uint64 // the number of nodes of the schedule that the step visited
-}
 
 // Fault is the error of a call: its number and place, as zsched.h defines them.
 type Fault struct {
 	Number uint32 // the number in zsched.h
-	At     uint64 // the place, or 0
+	At     uint64 // the byte of the text, or 0
 }
 
 // Error returns the library's text.
 func (fault *Fault) Error() string {
-	out := make([]byte, room)
-	size := C.zs_fault_text(C.uint32_t(fault.Number), C.uint64_t(fault.At), bytesOf(out), room)
+	out := make([]byte, C.ZS_TEXT_MOST)
+	size := C.zs_strerror(C.uint32_t(fault.Number), C.uint64_t(fault.At), bytesOf(out), C.size_t(len(out)))
 	return string(out[:size])
 }
 
 // Version returns that of the library as one number: 1000000 * major + 1000 * minor + patch.
 func Version() uint32 { return uint32(C.zs_version()) }
 
-// Check returns a *Fault if the text is no schedule.
-func Check(text string) error {
-	data, at := []byte(text), C.uint64_t(0)
-	return errorOf(C.zs_check(bytesOf(data), C.size_t(len(data)), &at), at)
+// Driver is what a loop does with a schedule, for BoundsOf. The zero value makes attempts of 1
+// millisecond or more, and exactly the schedule's waits. Times are in milliseconds.
+type Driver struct {
+	Least  uint64  // no attempt takes less; 0 counts as 1
+	Most   uint64  // no attempt takes more; 0 is no limit
+	Jitter float64 // the share of a wait that jitter may take off, from 0 to 1, in whole percent
+	Asked  uint64  // the longest wait that a service may ask for, as by Retry-After
+	Late   uint64  // how late an attempt may begin; math.MaxUint64 is any lateness
 }
 
-// Attempt is how long each attempt takes, in milliseconds: 1 or more, and a Most of 0 is no limit.
-type Attempt struct{ Least, Most uint64 }
-
-// Bounds is what a schedule does for every input, if each attempt takes as long as was given and no
-// moment is above 999999999999999. Times are in milliseconds.
+// Bounds is what a schedule does for every input, if no moment is above 999999999999999. Times are in
+// milliseconds.
 type Bounds struct {
 	Seen          uint64 // the number of attempts that were examined
 	Least         uint64 // the first attempt that can be the last one
@@ -80,20 +72,27 @@ type Bounds struct {
 	LongestRun    uint64 // when each attempt ends at most, from the first one's begin, or 0
 }
 
-// BoundsOf returns the bounds of a text's schedule, of which at most the first `steps` attempts are
-// examined, or a *Fault. Without an Attempt each takes 1 millisecond or more; the last one counts.
-func BoundsOf(text string, steps uint64, attempts ...Attempt) (Bounds, error) {
-	data, found, at, durations := []byte(text), C.struct_zs_bounds{}, C.uint64_t(0), C.zs_durations{least: 1}
-	for _, attempt := range attempts {
-		durations = C.zs_durations{least: C.uint64_t(attempt.Least), most: C.uint64_t(attempt.Most)}
-		if attempt.Most > 0 {
-			durations.has_most = 1
-		}
+// BoundsOf returns the bounds of a text's schedule with a driver. At most the first `steps` attempts
+// are examined. The error is a *Fault, or that of a jitter that isn't from 0 to 1.
+func BoundsOf(text string, steps uint64, driver Driver) (Bounds, error) {
+	percent, err := percentOf(driver.Jitter)
+	if err != nil {
+		return Bounds{}, err
 	}
-	number := C.zs_bounds(bytesOf(data), C.size_t(len(data)), &durations, C.uint64_t(steps), &found, &at)
+	data, at, found := []byte(text), C.uint64_t(0), C.zs_run_bounds{size: C.sizeof_zs_run_bounds}
+	it := C.zs_driver{size: C.sizeof_zs_driver, least_ms: C.uint64_t(driver.Least), most_ms: C.uint64_t(driver.Most),
+		least_percent: C.uint64_t(100 - percent), most_percent: 100, asked_ms: C.uint64_t(driver.Asked),
+		late_ms: C.uint64_t(driver.Late)}
+	if it.least_ms == 0 {
+		it.least_ms = 1
+	}
+	if it.most_ms > 0 {
+		it.has_most = 1
+	}
+	number := C.zs_bounds(bytesOf(data), C.size_t(len(data)), &it, C.uint64_t(steps), &found, &at)
 	return Bounds{uint64(found.seen), uint64(found.least), found.has_most == 1, uint64(found.most),
-		uint64(found.longest), found.has_total == 1, uint64(found.total),
-		found.has_longest_run == 1, uint64(found.longest_run)}, errorOf(number, at)
+		uint64(found.longest_ms), found.has_total == 1, uint64(found.total_ms),
+		found.has_longest_run == 1, uint64(found.longest_run_ms)}, errorOf(number, at)
 }
 
 // EndsWithin returns whether each call ends within `run` milliseconds, attempts and waits together.
@@ -107,129 +106,162 @@ func (bounds Bounds) Within(most, total uint64) bool {
 	return bounds.HasMost && bounds.Most <= most && bounds.HasTotal && bounds.Total <= total
 }
 
-// bytesOf returns the address of bytes, or nil if there are none.
-func bytesOf(data []byte) *C.uint8_t {
-	if len(data) == 0 {
-		return nil
-	}
-	return (*C.uint8_t)(unsafe.Pointer(&data[0]))
-}
-
-// errorOf returns the error that a number represents, or nil if it is none.
-func errorOf(number C.uint32_t, at C.uint64_t) error {
-	if number <= done {
-		return nil
-	}
-	return &Fault{Number: uint32(number), At: uint64(at)}
-}
-
-// resultOf returns the result of a call, which is made again with more room if the output didn't
-// fit.
-func resultOf(call func(out []byte) (C.uint32_t, C.zs_reply)) (Answer, error) {
-	out := make([]byte, room)
-	number, reply := call(out)
-	if uint64(reply.size) > uint64(len(out)) {
-		out = make([]byte, reply.size)
-		number, reply = call(out)
-	}
-	if err := errorOf(number, reply.at); err != nil {
-		return Answer{}, err
-	}
-	return Answer{number == done, uint64(reply.next), string(out[:reply.size]), uint64(reply.visits)}, nil
-}
-
-// Schedule is a schedule and the steps that it has seen, which are its whole state. New makes one;
-// the zero value has no text, so its steps are a *Fault.
+// Schedule is a compiled schedule and the state after its steps, whose size depends on the text
+// alone. Compile makes one; the steps of the zero value are a *Fault with the number NoProgram. One
+// goroutine at a time may step a Schedule. Begin, State and String of a Schedule that none steps, and
+// retries by any, may run in many goroutines. A Schedule must not be copied; Clone makes a copy.
 type Schedule struct {
-	text string
-	seen []Seen
+	text           string
+	program, state []uint64
+	// What calls of C read and write, so that a step allocates nothing.
+	turn         C.zs_turn
+	next, visits C.uint64_t
 }
 
-// New returns the schedule of a text, before its first step, or a *Fault.
-func New(text string) (*Schedule, error) {
-	if err := Check(text); err != nil {
-		return nil, err
-	}
-	return &Schedule{text: text}, nil
-}
-
-// Seen returns a copy of the steps so far, oldest first.
-func (schedule *Schedule) Seen() []Seen { return append([]Seen(nil), schedule.seen...) }
-
-// After makes one more step, at a moment in milliseconds and with an input, and returns its result.
-// After an error the schedule is unchanged.
-func (schedule *Schedule) After(moment, input uint64) (Answer, error) {
-	data, seen := []byte(schedule.text), append(schedule.seen[:len(schedule.seen):len(schedule.seen)], Seen{moment, input})
-	result, err := resultOf(func(out []byte) (number C.uint32_t, reply C.zs_reply) {
-		steps := (*C.zs_seen)(unsafe.Pointer(&seen[0]))
-		number = C.zs_answer(bytesOf(data), C.size_t(len(data)), steps, C.size_t(len(seen)), &reply, bytesOf(out),
-			C.size_t(len(out)))
-		return
-	})
-	if err == nil {
-		schedule.seen = seen
-	}
-	return result, err
-}
-
-// Stepper is a schedule with a state of fixed size, so a step takes no longer after many steps than
-// after one. Its text is read once. NewStepper makes one; the zero value has no program, so its steps
-// are a *Fault with the number NoProgram.
-type Stepper struct {
-	program []uint64
-	state   []uint64
-}
-
-// NewStepper returns the schedule of a text, before its first step, or a *Fault. A schedule with
-// collectAll has no such state.
-func NewStepper(text string) (*Stepper, error) {
-	data, size, stateSize, at := []byte(text), C.uint64_t(0), C.uint64_t(0), C.uint64_t(0)
+// Compile returns the schedule of a text, before its first step, or a *Fault. A schedule with
+// collectAll is one with the number KeepsList.
+func Compile(text string) (*Schedule, error) {
+	data, size, stateSize, at := []byte(text), C.size_t(0), C.size_t(0), C.uint64_t(0)
 	number := C.zs_program_size(bytesOf(data), C.size_t(len(data)), &size, &stateSize, &at)
-	program, state := make([]uint64, size), make([]uint64, stateSize)
-	if number <= done {
-		number = C.zs_compile(bytesOf(data), C.size_t(len(data)), wordsOf(program), C.size_t(size), &at)
-	}
-	if number <= done {
-		number = C.zs_program_begin(wordsOf(program), C.size_t(size), wordsOf(state), C.size_t(stateSize))
+	made := &Schedule{text: text, program: make([]uint64, size), state: make([]uint64, stateSize)}
+	if number == C.ZS_OK {
+		number = C.zs_compile(bytesOf(data), C.size_t(len(data)), wordsOf(made.program), size, &at)
 	}
 	if err := errorOf(number, at); err != nil {
 		return nil, err
 	}
-	return &Stepper{program, state}, nil
+	return made.Begin(), nil
 }
 
-// Resume returns the schedule of a text with a state that State returned, or a *Fault with the
-// number OtherState. Words that were changed after the first aren't detected.
-func Resume(text string, state []uint64) (*Stepper, error) {
-	stepper, err := NewStepper(text)
+// MustCompile returns the schedule of a text that is part of the program. It panics if that is none.
+func MustCompile(text string) *Schedule {
+	schedule, err := Compile(text)
+	if err != nil {
+		panic("zsched: " + err.Error() + ": " + text)
+	}
+	return schedule
+}
+
+// Resume returns the schedule of a text with a state that State returned, or a *Fault, which has the
+// number OtherState for the state of another schedule. Words that were changed after the first aren't
+// detected.
+func Resume(text string, state []uint64) (*Schedule, error) {
+	schedule, err := Compile(text)
 	if err != nil {
 		return nil, err
 	}
-	if len(state) != len(stepper.state) || state[0] != stepper.state[0] {
+	if len(state) != len(schedule.state) || state[0] != schedule.state[0] {
 		return nil, &Fault{Number: OtherState}
 	}
-	copy(stepper.state, state)
-	return stepper, nil
+	copy(schedule.state, state)
+	return schedule, nil
 }
+
+// Begin returns the schedule before any step. Both share the program.
+func (schedule *Schedule) Begin() *Schedule {
+	it := &Schedule{text: schedule.text, program: schedule.program, state: make([]uint64, len(schedule.state))}
+	C.zs_program_begin(wordsOf(it.program), C.size_t(len(it.program)), wordsOf(it.state), C.size_t(len(it.state)))
+	return it
+}
+
+// Clone returns a copy, which shares the program and is stepped alone.
+func (schedule *Schedule) Clone() *Schedule {
+	return &Schedule{text: schedule.text, program: schedule.program, state: schedule.State()}
+}
+
+// String returns the text.
+func (schedule *Schedule) String() string { return schedule.text }
 
 // State returns a copy of the words of the state. Their number depends on the text alone. The first
 // identifies the schedule.
-func (stepper *Stepper) State() []uint64 { return append([]uint64(nil), stepper.state...) }
+func (schedule *Schedule) State() []uint64 { return append([]uint64(nil), schedule.state...) }
 
-// After makes one more step, at a moment in milliseconds and with an input, and returns its result.
-// After an error the schedule is unchanged.
-func (stepper *Stepper) After(moment, input uint64) (Answer, error) {
-	program, state := stepper.program, make([]uint64, len(stepper.state))
-	result, err := resultOf(func(out []byte) (number C.uint32_t, reply C.zs_reply) {
-		copy(state, stepper.state)
-		number = C.zs_program_step(wordsOf(program), C.size_t(len(program)), wordsOf(state), C.size_t(len(state)),
-			C.uint64_t(moment), C.uint64_t(input), &reply, bytesOf(out), C.size_t(len(out)))
-		return
-	})
-	if err == nil {
-		stepper.state = state
+// After makes one more step, at a moment in milliseconds and with an input. It returns the moment at
+// which the next attempt may begin; ok is false if the schedule is done. After a *Fault the schedule
+// is unchanged.
+func (schedule *Schedule) After(moment, input uint64) (next uint64, ok bool, err error) {
+	number := C.zs_program_step(wordsOf(schedule.program), C.size_t(len(schedule.program)), wordsOf(schedule.state),
+		C.size_t(len(schedule.state)), C.uint64_t(moment), C.uint64_t(input), &schedule.next, &schedule.visits)
+	return uint64(schedule.next), number == C.ZS_OK, errorOf(number, 0)
+}
+
+// Output returns the text of the last step's output, or a *Fault with the number NoStep.
+func (schedule *Schedule) Output() (string, error) {
+	out, size := make([]byte, 64), C.size_t(0)
+	for {
+		number := C.zs_output(wordsOf(schedule.program), C.size_t(len(schedule.program)), wordsOf(schedule.state),
+			C.size_t(len(schedule.state)), bytesOf(out), C.size_t(len(out)), &size)
+		if int(size) < len(out) {
+			return string(out[:size]), errorOf(number, 0)
+		}
+		out = make([]byte, size+1)
 	}
-	return result, err
+}
+
+// Turn is one failed attempt of a loop, by the loop's own clock. Began and Ended count from the begin
+// of the first attempt; one below 0 counts as 0. The clock may fall.
+type Turn struct {
+	Began, Ended time.Duration
+	Input        uint64        // the error's code, or any number
+	Least        time.Duration // the least wait that the service asked for, in whole milliseconds, rounded up
+	Longest      time.Duration // a Least counts up to this; 0 is an hour, and below 0 none counts
+	Jitter       float64       // the share of the wait that jitter may take off, from 0 to 1, in whole percent
+	Draw         func() uint32 // how much of that it takes off: 32 random bits; nil draws them
+}
+
+// Plan steps the schedule at the end of an attempt. It returns when the next one may begin, from the
+// begin of the first, at most 292 years; ok is false if the loop gives up. After an error the schedule
+// is unchanged. The error is a *Fault, or that of a jitter that isn't from 0 to 1.
+//
+// A loop makes at most Most attempts by its Bounds, whatever its clock does. A state may be stored
+// between two turns; later ones count from the same begin.
+func (schedule *Schedule) Plan(turn Turn) (begin time.Duration, ok bool, err error) {
+	percent, err := percentOf(turn.Jitter)
+	if err != nil {
+		return 0, false, err
+	}
+	if turn.Longest == 0 {
+		turn.Longest = time.Hour
+	}
+	schedule.turn = C.zs_turn{size: C.sizeof_zs_turn, began_ns: count(turn.Began, 1), ended_ns: count(turn.Ended, 1),
+		input: C.uint64_t(turn.Input), least_ms: count(turn.Least, time.Millisecond),
+		longest_ms: count(turn.Longest, time.Millisecond), percent: percent}
+	if turn.Draw != nil {
+		schedule.turn.draw = C.uint32_t(turn.Draw())
+	} else if percent > 0 {
+		// Before Go 1.20 math/rand gives all processes the same.
+		schedule.turn.draw = C.uint32_t(new(maphash.Hash).Sum64())
+	}
+	number := C.zs_plan(wordsOf(schedule.program), C.size_t(len(schedule.program)), wordsOf(schedule.state),
+		C.size_t(len(schedule.state)), &schedule.turn, &schedule.next)
+	if schedule.next > math.MaxInt64 {
+		schedule.next = math.MaxInt64
+	}
+	return time.Duration(schedule.next), number == C.ZS_OK, errorOf(number, 0)
+}
+
+// count returns how many units a time has, rounded up; one below 0 has none.
+func count(it, unit time.Duration) C.uint64_t {
+	if it <= 0 {
+		return 0
+	}
+	return C.uint64_t((it-1)/unit + 1)
+}
+
+// percentOf returns a share from 0 to 1 in whole percent.
+func percentOf(share float64) (C.uint32_t, error) {
+	if !(share >= 0 && share <= 1) {
+		return 0, fmt.Errorf("zsched: a jitter of %v is not from 0 to 1", share)
+	}
+	return C.uint32_t(math.Round(100 * share)), nil
+}
+
+// bytesOf returns the address of bytes, or nil if there are none.
+func bytesOf(data []byte) *C.char {
+	if len(data) == 0 {
+		return nil
+	}
+	return (*C.char)(unsafe.Pointer(&data[0]))
 }
 
 // wordsOf returns the address of words, or nil if there are none.
@@ -238,4 +270,12 @@ func wordsOf(words []uint64) *C.uint64_t {
 		return nil
 	}
 	return (*C.uint64_t)(unsafe.Pointer(&words[0]))
+}
+
+// errorOf returns the error that a number represents, or nil if it is none.
+func errorOf(number C.enum_zs_status, at C.uint64_t) error {
+	if number <= C.ZS_DONE {
+		return nil
+	}
+	return &Fault{Number: uint32(number), At: uint64(at)}
 }
