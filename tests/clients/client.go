@@ -15,7 +15,10 @@ import (
 	zsched "github.com/zsched/zsched/bindings/go"
 )
 
-var budgets = []*zsched.Budget{nil, zsched.NewBudget(10, 0.5)}
+var (
+	budgets = []*zsched.Budget{nil, zsched.NewBudget(10, 0.5)}
+	flags   = map[bool]int{true: 1}
+)
 
 type failing uint64
 
@@ -23,35 +26,83 @@ func (code failing) Error() string { return strconv.FormatUint(uint64(code), 10)
 
 func codeOf(err error) uint64 { return uint64(err.(failing)) }
 
+func millis(number uint64) time.Duration { return time.Duration(number) * time.Millisecond }
+
+// stored returns the schedule as it is after its state was stored.
+func stored(schedule *zsched.Schedule) *zsched.Schedule {
+	schedule, err := zsched.Resume(schedule.String(), schedule.State())
+	if err != nil {
+		panic(err)
+	}
+	return schedule
+}
+
 func steps(command, text string, numbers []uint64) (said []any, err error) {
-	var schedule interface {
-		After(moment, input uint64) (zsched.Answer, error)
-	}
-	if command == "list" {
-		schedule, err = zsched.New(text)
-	} else {
-		schedule, err = zsched.NewStepper(text)
-	}
+	schedule, err := zsched.Compile(text)
 	for i := 0; i < len(numbers) && err == nil; i += 2 {
 		if command == "stored" {
-			schedule, _ = zsched.Resume(text, schedule.(*zsched.Stepper).State())
+			schedule = stored(schedule)
 		}
-		result, failed := schedule.After(numbers[i], numbers[i+1])
+		next, ok, failed := schedule.After(numbers[i], numbers[i+1])
 		if failed != nil {
 			return said, failed
 		}
-		number := map[bool]int{true: 1}[result.Done]
-		said = append(said, fmt.Sprintf("%d,%d,%d,%s", number, result.Next, result.Visits, result.Output))
+		output, _ := schedule.Output()
+		said = append(said, fmt.Sprintf("%d,%d,%s", flags[!ok], next, output))
 	}
 	return
 }
 
-func bounds(text string, steps uint64, durations ...uint64) ([]any, error) {
-	found, err := zsched.BoundsOf(text, steps)
-	if len(durations) > 0 {
-		found, err = zsched.BoundsOf(text, steps, zsched.Attempt{Least: durations[0], Most: durations[1]})
+func plan(text string, percent, least, longest uint64, numbers []uint64) (said []any, err error) {
+	schedule, err := zsched.Compile(text)
+	turn := zsched.Turn{Least: millis(least), Longest: millis(longest), Jitter: float64(percent) / 100}
+	if longest == 0 {
+		turn.Longest = -1
 	}
-	flags := map[bool]int{true: 1}
+	for ; len(numbers) > 0 && err == nil; numbers = numbers[4:] {
+		turn.Began, turn.Ended, turn.Input = time.Duration(numbers[0]), time.Duration(numbers[1]), numbers[2]
+		turn.Draw = func() uint32 { return uint32(numbers[3]) }
+		begin, ok, failed := schedule.Plan(turn)
+		if failed != nil {
+			return said, failed
+		}
+		said = append(said, fmt.Sprintf("%d,%d", flags[!ok], begin))
+	}
+	return
+}
+
+// restarted counts by a clock of the wall, in nanoseconds.
+func restarted(text string, code, back, most uint64) []any {
+	start := time.Duration(1e18)
+	clock, last, schedule := start, time.Duration(0), zsched.MustCompile(text)
+	for attempts := uint64(1); ; attempts++ {
+		if attempts == 3 {
+			clock -= millis(back)
+		}
+		schedule = stored(schedule)
+		begin, ok, err := schedule.Plan(zsched.Turn{Began: clock - start, Ended: clock - start, Input: code})
+		if err != nil {
+			panic(err)
+		}
+		if ok {
+			last = begin
+		}
+		if !ok || attempts == most {
+			return []any{attempts, int64(last)}
+		}
+		clock = start + begin
+	}
+}
+
+func bounds(text string, steps uint64, numbers ...uint64) ([]any, error) {
+	driver := zsched.Driver{}
+	if len(numbers) > 0 {
+		driver.Least, driver.Most = numbers[0], numbers[1]
+	}
+	if len(numbers) > 2 {
+		driver.Jitter, driver.Asked, driver.Late = float64(numbers[2])/100, numbers[3], numbers[4]
+	}
+	found, err := zsched.BoundsOf(text, steps, driver)
 	said := []any{found.Seen, found.Least, flags[found.HasMost], found.Most, found.Longest, flags[found.HasTotal], found.Total,
 		flags[found.HasLongestRun], found.LongestRun}
 	if err != nil {
@@ -62,26 +113,29 @@ func bounds(text string, steps uint64, durations ...uint64) ([]any, error) {
 
 func moved(text string) error {
 	first, second, _ := strings.Cut(text, "\n")
-	stepper, _ := zsched.NewStepper(first)
-	_, err := zsched.Resume(second, stepper.State())
+	_, err := zsched.Resume(second, zsched.MustCompile(first).State())
 	return err
 }
 
-func retry(text string, code, times uint64, options ...uint64) []any {
+func retry(text string, code, times uint64, options ...uint64) ([]any, error) {
+	schedule, err := zsched.Compile(text)
+	if err != nil {
+		return nil, err
+	}
 	start, attempts, said, more := time.Now(), uint64(0), []any{""}, []zsched.Option(nil)
 	if len(options) > 4 {
-		more = append(more, zsched.RetryAfterMost(time.Duration(options[4])*time.Millisecond))
+		more = append(more, zsched.RetryAfterMost(millis(options[4])))
 	}
 	if len(options) > 0 {
 		more = append(more,
 			zsched.WithBudget(budgets[options[3]]),
 			zsched.Jitter(float64(options[0])/100),
-			zsched.RetryAfter(func(error) time.Duration { return time.Duration(options[1]) * time.Millisecond }),
+			zsched.RetryAfter(func(error) time.Duration { return millis(options[1]) }),
 			zsched.Notify(func(_ error, attempt int, wait time.Duration) {
 				said = append(said, fmt.Sprintf("%d:%d", attempt, wait.Milliseconds()))
 			}))
 	}
-	ended, err := zsched.RetryValue(context.Background(), zsched.MustCompile(text), codeOf, func(context.Context) (string, error) {
+	ended, err := zsched.RetryValue(context.Background(), schedule, codeOf, func(context.Context) (string, error) {
 		said = append(said, time.Since(start).Microseconds())
 		attempts++
 		if attempts > times {
@@ -96,7 +150,37 @@ func retry(text string, code, times uint64, options ...uint64) []any {
 		ended = err.Error()
 	}
 	said[0] = ended
-	return said
+	return said, nil
+}
+
+// order notes the calls of a retry, how it ended and the tokens that remain.
+func order(text, what string) (said []any) {
+	ctx, cancel := context.WithCancel(context.Background())
+	budget, note := zsched.NewBudget(10, 0.5), func(word string) { said = append(said, word) }
+	if what == "broke" {
+		budget = zsched.NewBudget(1, 0)
+	}
+	err := zsched.Retry(ctx, zsched.MustCompile(text), func(err error) uint64 {
+		note("input")
+		return codeOf(err)
+	}, func(context.Context) error {
+		note("attempt")
+		switch what {
+		case "cancelled":
+			cancel()
+		case "unretried":
+			return zsched.Permanent(failing(7))
+		}
+		return failing(7)
+	}, zsched.WithBudget(budget), zsched.RetryAfter(func(error) time.Duration {
+		note("least")
+		return 0
+	}), zsched.Notify(func(error, int, time.Duration) { note("sleep") }))
+	ended := err.Error()
+	if errors.Is(err, context.Canceled) {
+		ended = "cancelled"
+	}
+	return append(said, ended, fmt.Sprintf("%.1f", budget.Tokens()))
 }
 
 // limited makes attempts that end some time after their context, or in 5 seconds.
@@ -114,7 +198,7 @@ func limited(text string, code, times, most uint64) []any {
 		case <-time.After(5 * time.Second):
 		}
 		return failing(code)
-	}, zsched.AttemptMost(time.Duration(most)*time.Millisecond))
+	}, zsched.AttemptMost(millis(most)))
 	if err != nil {
 		said[0] = err.Error()
 	}
@@ -122,18 +206,17 @@ func limited(text string, code, times, most uint64) []any {
 }
 
 func good(text string, count uint64) int64 {
-	policy, ctx, start := zsched.MustCompile(text), context.Background(), time.Now()
+	schedule, ctx, start := zsched.MustCompile(text), context.Background(), time.Now()
 	for i := uint64(0); i < count; i++ {
-		_, _ = zsched.RetryValue(ctx, policy, codeOf, func(context.Context) (uint64, error) { return i, nil })
+		_, _ = zsched.RetryValue(ctx, schedule, codeOf, func(context.Context) (uint64, error) { return i, nil })
 	}
 	return time.Since(start).Nanoseconds() / int64(count)
 }
 
 func many(text string, count uint64) {
-	stepper, _ := zsched.NewStepper(text)
-	result := zsched.Answer{}
+	schedule, next := zsched.MustCompile(text), uint64(0)
 	for i := uint64(1); i <= count; i++ {
-		result, _ = stepper.After(result.Next, 503)
+		next, _, _ = schedule.After(next, 503)
 		if i%(count/10) == 0 {
 			fmt.Println()
 		}
@@ -155,8 +238,14 @@ func main() {
 			said = append(said, zsched.Version())
 		case "moved":
 			err = moved(text)
+		case "plan":
+			said, err = plan(text, numbers[0], numbers[1], numbers[2], numbers[3:])
+		case "restarted":
+			said = restarted(text, numbers[0], numbers[1], numbers[2])
 		case "retry":
-			said = retry(text, numbers[0], numbers[1], numbers[2:]...)
+			said, err = retry(text, numbers[0], numbers[1], numbers[2:]...)
+		case "order":
+			said = order(text, words[2])
 		case "limited":
 			said = limited(text, numbers[0], numbers[1], numbers[2])
 		case "good":

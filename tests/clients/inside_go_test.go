@@ -10,14 +10,20 @@ import (
 func TestAClockBelowItsStartStandsStill(t *testing.T) {
 	ctx, cancel := context.WithTimeout(context.Background(), 10*time.Second)
 	defer cancel()
-	for _, more := range []options{{}, {jitter: 1}} {
-		run := run{options: more, policy: MustCompile("(spaced(30) && recurs(5))"), start: time.Now().Add(time.Hour)}
+	for _, jitter := range []float64{0, 1} {
+		waits := []time.Duration(nil)
+		run := run{policy: MustCompile("(spaced(10) && recurs(5))"), start: time.Now().Add(time.Hour)}
+		run.turn.Jitter = jitter
+		run.notify = func(_ error, _ int, wait time.Duration) { waits = append(waits, wait) }
 		for begun, number := time.Now(), 1; number <= 3; number++ {
 			again, err := run.next(ctx, errors.New("busy"))
-			passed := time.Since(begun)
-			if !again || err != nil || run.planned != uint64(31*number) || passed > 2*time.Second ||
-				more.jitter == 0 && passed < time.Duration(number)*30*time.Millisecond {
-				t.Error(number, again, err, run.planned, passed)
+			passed, least, most := time.Since(begun), waits[0], time.Duration(11*number)*time.Millisecond
+			for _, wait := range waits[1:] {
+				least += wait
+			}
+			if wait := waits[number-1]; !again || err != nil || passed < least || passed > 2*time.Second ||
+				wait < 0 || wait > most || jitter == 0 && wait != most {
+				t.Error(number, again, err, waits, passed)
 			}
 		}
 	}

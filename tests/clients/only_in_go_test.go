@@ -14,7 +14,7 @@ import (
 	zsched "github.com/zsched/zsched/bindings/go"
 )
 
-const noAttempt = "zsched: the policy or the attempt is nil"
+const noAttempt = "zsched: the schedule or the attempt is nil"
 
 var errBusy = errors.New("busy")
 
@@ -30,12 +30,17 @@ func TestNoFunctionIsNoPanic(t *testing.T) {
 	if _, err := zsched.RetryValue[int](context.Background(), zsched.MustCompile("recurs(2)"), nil, nil); err == nil || err.Error() != noAttempt {
 		t.Error(err)
 	}
-	var fault *zsched.Fault
-	if _, err := new(zsched.Stepper).After(1, 2); !errors.As(err, &fault) || fault.Number != zsched.NoProgram {
+	none, fault := new(zsched.Schedule), new(zsched.Fault)
+	if err := zsched.Retry(context.Background(), none, nil, busy); err == nil || err.Error() != noAttempt {
 		t.Error(err)
 	}
-	if _, err := new(zsched.Schedule).After(1, 2); !errors.As(err, &fault) || fault.Error() != "no term at byte 0" {
-		t.Error(err)
+	_, _, after := none.After(1, 2)
+	_, _, plan := none.Begin().Plan(zsched.Turn{})
+	_, output := none.Clone().Output()
+	for _, err := range []error{after, plan, output} {
+		if !errors.As(err, &fault) || fault.Number != zsched.NoProgram {
+			t.Error(err)
+		}
 	}
 }
 
@@ -91,16 +96,92 @@ func TestAWaitIsNotNegative(t *testing.T) {
 	}
 }
 
-func TestACopyOfAScheduleGoesOnAlone(t *testing.T) {
-	schedule, err := zsched.New("(spaced(5) && recurs(9)).collectAll")
-	for moment := uint64(0); err == nil && moment < 5; moment++ {
-		_, err = schedule.After(moment, 0)
+func next(t *testing.T, schedule *zsched.Schedule, moment uint64) uint64 {
+	next, ok, err := schedule.After(moment, 0)
+	if !ok || err != nil {
+		t.Error(schedule, moment, ok, err)
 	}
-	fork := *schedule
-	_, first := schedule.After(10, 1)
-	_, second := fork.After(20, 2)
-	if err != nil || first != nil || second != nil || schedule.Seen()[5] != (zsched.Seen{Moment: 10, Input: 1}) {
-		t.Error(err, first, second, schedule.Seen())
+	return next
+}
+
+func TestAScheduleStepsWithoutItsClones(t *testing.T) {
+	schedule := zsched.MustCompile("(linear(10) && recurs(9))")
+	begun := schedule.Begin()
+	if first := next(t, schedule, 1); first != 11 {
+		t.Error(first)
+	}
+	clone, fresh := schedule.Clone(), schedule.Begin()
+	resumed, err := zsched.Resume(schedule.String(), schedule.State())
+	if err != nil || schedule.String() != "(linear(10) && recurs(9))" {
+		t.Error(schedule, err)
+	}
+	for it, wanted := range map[*zsched.Schedule]uint64{schedule: 40, clone: 40, resumed: 40, fresh: 30, begun: 30} {
+		if found := next(t, it, 20); found != wanted {
+			t.Error(found, wanted)
+		}
+	}
+}
+
+func TestAnOutputFollowsAStepAndHasAnyLength(t *testing.T) {
+	schedule, fault := zsched.MustCompile("(spaced(18446744073709551615) && linear(18446744073709551615))"), new(zsched.Fault)
+	wide := zsched.MustCompile("(" + schedule.String() + " && " + schedule.String() + ")")
+	if out, err := wide.Output(); out != "" || !errors.As(err, &fault) || fault.Number != zsched.NoStep {
+		t.Error(out, err)
+	}
+	_, _, err := wide.After(1, 0)
+	if out, failed := wide.Output(); err != nil || failed != nil ||
+		out != "((0,18446744073709551615),(0,18446744073709551615))" {
+		t.Error(out, err, failed)
+	}
+}
+
+func TestATurnMayHaveAnyTime(t *testing.T) {
+	const most = time.Duration(math.MaxInt64)
+	zero, ms := func() uint32 { return 0 }, time.Millisecond
+	for _, it := range []struct {
+		text  string
+		turn  zsched.Turn
+		begin time.Duration
+	}{
+		{"spaced(30)", zsched.Turn{Began: -1, Ended: -most, Least: -most}, 31 * ms},
+		{"spaced(30)", zsched.Turn{Ended: 5900 * time.Microsecond}, 35 * ms},
+		{"spaced(30)", zsched.Turn{Least: 40*ms + 1}, 41 * ms},
+		{"spaced(30)", zsched.Turn{Least: most, Longest: 50*ms - 1}, 50 * ms},
+		{"spaced(30)", zsched.Turn{Least: most}, time.Hour},
+		{"spaced(30)", zsched.Turn{Least: most, Longest: -1}, 31 * ms},
+		{"spaced(30)", zsched.Turn{Least: most, Longest: most}, most},
+		{"spaced(30)", zsched.Turn{Ended: ms, Jitter: 0.5, Draw: zero}, 31 * ms},
+		{"spaced(30)", zsched.Turn{Ended: ms, Jitter: 0.5, Draw: func() uint32 { return 1 << 31 }}, 23500 * time.Microsecond},
+		{"spaced(9223372036854)", zsched.Turn{Ended: most}, most},
+	} {
+		begin, ok, err := zsched.MustCompile(it.text).Plan(it.turn)
+		if begin != it.begin || !ok || err != nil {
+			t.Error(it, begin, ok, err)
+		}
+	}
+}
+
+func TestAStepAllocatesNothing(t *testing.T) {
+	schedule, moment := zsched.MustCompile("((exponential(10) || spaced(50)) && recurs(100000))"), uint64(0)
+	turn := zsched.Turn{Jitter: 0.5}
+	if count := testing.AllocsPerRun(1000, func() { moment = next(t, schedule, moment) }); count != 0 {
+		t.Error(count)
+	}
+	schedule = schedule.Begin()
+	if count := testing.AllocsPerRun(1000, func() { turn.Ended, _, _ = schedule.Plan(turn) }); count != 0 || turn.Ended == 0 {
+		t.Error(count)
+	}
+}
+
+func TestRetryAfterIsHonouredUpToItsMost(t *testing.T) {
+	for most, wanted := range map[time.Duration]time.Duration{-1: 0, 0: 0, 20 * time.Millisecond: 20 * time.Millisecond} {
+		waited := time.Duration(-1)
+		err := zsched.Retry(context.Background(), zsched.MustCompile("recurs(1)"), nil, busy,
+			zsched.RetryAfter(func(error) time.Duration { return math.MaxInt64 }), zsched.RetryAfterMost(most),
+			zsched.Notify(func(_ error, _ int, wait time.Duration) { waited = wait }))
+		if err != errBusy || waited < wanted || waited > wanted+time.Millisecond {
+			t.Error(err, most, waited)
+		}
 	}
 }
 
@@ -111,7 +192,7 @@ func TestAnAttemptThatBeginsEarlyCountsFromItsPlannedMoment(t *testing.T) {
 		time.Sleep(10 * time.Millisecond)
 		return errBusy
 	}, zsched.Jitter(1))
-	bounds, err := zsched.BoundsOf(text, 1000, zsched.Attempt{Least: 10})
+	bounds, err := zsched.BoundsOf(text, 1000, zsched.Driver{Least: 10, Jitter: 1})
 	if err != nil || !bounds.HasMost || attempts > bounds.Most {
 		t.Error(attempts, bounds, err)
 	}
@@ -119,11 +200,16 @@ func TestAnAttemptThatBeginsEarlyCountsFromItsPlannedMoment(t *testing.T) {
 
 func TestABoundIsHeldOrNot(t *testing.T) {
 	// 6 attempts, and 3100 milliseconds
-	bounds, err := zsched.BoundsOf("(exponential(100) && recurs(5))", 1000)
+	bounds, err := zsched.BoundsOf("(exponential(100) && recurs(5))", 1000, zsched.Driver{})
 	if err != nil || !bounds.Within(6, 3100) || bounds.Within(5, 3100) || bounds.Within(6, 3099) {
 		t.Error(bounds, err)
 	}
-	if bounds, err = zsched.BoundsOf("spaced(1)", 9); err != nil || bounds.Within(1<<63, 1<<63) {
+	driver := zsched.Driver{Most: 10, Jitter: 0.5, Asked: 500, Late: 1}
+	if bounds, err = zsched.BoundsOf("(spaced(100) && recurs(2))", 9, driver); err != nil ||
+		!bounds.Within(3, 1002) || bounds.Within(3, 1001) || !bounds.EndsWithin(1032) || bounds.EndsWithin(1031) {
+		t.Error(bounds, err)
+	}
+	if bounds, err = zsched.BoundsOf("spaced(1)", 9, zsched.Driver{}); err != nil || bounds.Within(1<<63, 1<<63) {
 		t.Error(bounds, err)
 	}
 }
@@ -136,9 +222,15 @@ func panics(call func()) (is bool) {
 
 func TestWrongTextsAndNumbersAreRefused(t *testing.T) {
 	var fault *zsched.Fault
-	policy, err := zsched.Compile("recurs(")
-	if !errors.As(err, &fault) || fault.At != 7 || policy != nil || !panics(func() { zsched.MustCompile("recurs(") }) {
-		t.Error(policy, err)
+	schedule, err := zsched.Compile("recurs(")
+	if !errors.As(err, &fault) || fault.At != 7 || schedule != nil || !panics(func() { zsched.MustCompile("recurs(") }) {
+		t.Error(schedule, err)
+	}
+	if _, err = zsched.Compile("forever.collectAll"); !errors.As(err, &fault) || fault.Number != zsched.KeepsList {
+		t.Error(err)
+	}
+	if _, err = zsched.BoundsOf("forever", 9, zsched.Driver{Least: 6, Most: 5}); !errors.As(err, &fault) || fault.Number != zsched.NoDriver {
+		t.Error(err)
 	}
 	for _, wrong := range []float64{-1, math.NaN(), math.Inf(1)} {
 		if !panics(func() { zsched.NewBudget(wrong, 0.1) }) || !panics(func() { zsched.NewBudget(10, wrong) }) {
@@ -149,8 +241,10 @@ func TestWrongTextsAndNumbersAreRefused(t *testing.T) {
 			attempts++
 			return errBusy
 		}, zsched.Jitter(wrong))
-		if err == nil || err == errBusy || attempts != 0 {
-			t.Error(wrong, err, attempts)
+		_, _, plan := zsched.MustCompile("forever").Plan(zsched.Turn{Jitter: wrong})
+		_, bounds := zsched.BoundsOf("forever", 9, zsched.Driver{Jitter: wrong})
+		if err == nil || err == errBusy || attempts != 0 || plan == nil || bounds == nil {
+			t.Error(wrong, err, attempts, plan, bounds)
 		}
 	}
 	if zsched.NewBudget(0, 0).Take() {
@@ -173,21 +267,22 @@ func TestAnAttemptThatOutlastsItsLimitAndTheContextThatEndsIt(t *testing.T) {
 	}
 }
 
-func TestGoroutinesShareAPolicy(t *testing.T) {
-	for _, text := range []string{"recurs(20)", "recurs(20).collectAll"} {
-		policy, attempts, group := zsched.MustCompile(text), int64(0), sync.WaitGroup{}
-		for i := 0; i < 8; i++ {
-			group.Add(1)
-			go func() {
-				defer group.Done()
-				_ = zsched.Retry(context.Background(), policy, nil, func(context.Context) error {
-					atomic.AddInt64(&attempts, 1)
-					return errBusy
-				})
-			}()
-		}
-		if group.Wait(); attempts != 8*21 {
-			t.Error(text, attempts)
-		}
+func TestGoroutinesShareASchedule(t *testing.T) {
+	schedule, attempts, group := zsched.MustCompile("recurs(20)"), int64(0), sync.WaitGroup{}
+	for i := 0; i < 8; i++ {
+		group.Add(1)
+		go func() {
+			defer group.Done()
+			_ = zsched.Retry(context.Background(), schedule, nil, func(context.Context) error {
+				atomic.AddInt64(&attempts, 1)
+				return errBusy
+			})
+		}()
+	}
+	for moment := uint64(1); moment < 20; moment++ {
+		next(t, schedule, moment)
+	}
+	if group.Wait(); attempts != 8*21 {
+		t.Error(attempts)
 	}
 }
