@@ -30,13 +30,13 @@ func Notify(notify func(err error, attempt int, wait time.Duration)) Option {
 func Jitter(share float64) Option { return func(it *options) { it.turn.Jitter = share } }
 
 // RetryAfter has each sleep last at least as long as the function returns for an error, such as a
-// server's Retry-After, in whole milliseconds, rounded up. The bound of attempts still holds; those of
-// times hold if their Driver has the longest one as Asked.
+// server's Retry-After, in whole milliseconds, rounded up. A negative one is none.
 func RetryAfter(least func(error) time.Duration) Option {
 	return func(it *options) { it.retryAfter = least }
 }
 
-// RetryAfterMost sets the longest sleep of RetryAfter: an hour without it. A longer one lasts as long.
+// RetryAfterMost sets the longest sleep of RetryAfter, in whole milliseconds, rounded up: an hour
+// without it. A longer one lasts as long. If it is 0 or less, RetryAfter has no effect.
 func RetryAfterMost(most time.Duration) Option {
 	if most == 0 {
 		most = -1
@@ -70,8 +70,10 @@ func Permanent(err error) error {
 // one. After a Permanent error it doesn't retry. If the context ends in an attempt or a sleep, the
 // last error is returned in an *Ended, which is the context's error too.
 //
-// Each call begins the schedule anew, so goroutines may share it. Plan says when the next attempt
-// begins, by the monotonic clock, so its Bounds hold of each call.
+// Each call begins the schedule anew, so goroutines may share it. Plan returns when the next attempt
+// begins, by the monotonic clock, so its bounds hold of each call; a machine may wake late. After an
+// attempt that failed come Permanent, the context, inputOf, RetryAfter, the budget, Plan, Notify and
+// the sleep, in this order.
 func Retry(ctx context.Context, schedule *Schedule, inputOf func(error) uint64,
 	attempt func(context.Context) error, more ...Option) error {
 	if attempt == nil {

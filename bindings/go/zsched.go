@@ -2,9 +2,9 @@
 
 // Package zsched retries by the proved schedules of zsched.
 //
-// Retry and RetryValue sleep between attempts. A Schedule is for loops that sleep by other means, or
-// that continue after a restart. BoundsOf returns how often and how long a schedule retries at most.
-// The results are proved, the sleeping is not.
+// Retry and RetryValue retry by a Schedule, and sleep between attempts. A Schedule also has calls for
+// loops that sleep by other means, or that continue after a restart. BoundsOf returns how often and
+// how long a schedule retries at most. The results are proved, the sleeping is not.
 package zsched
 
 /*
@@ -107,9 +107,9 @@ func (bounds Bounds) Within(most, total uint64) bool {
 }
 
 // Schedule is a compiled schedule and the state after its steps, whose size depends on the text
-// alone. Compile makes one; the steps of the zero value are a *Fault with the number NoProgram. One
-// goroutine at a time may step a Schedule. Begin, State and String of a Schedule that none steps, and
-// retries by any, may run in many goroutines. A Schedule must not be copied; Clone makes a copy.
+// alone. Compile makes one; the steps of the zero value are a *Fault with the number NoProgram.
+// Goroutines may share a Schedule for Begin, String and retries, which only read its program. For the
+// rest one at a time may use it. A copied struct has the same state; Clone makes a separate one.
 type Schedule struct {
 	text           string
 	program, state []uint64
@@ -176,9 +176,9 @@ func (schedule *Schedule) String() string { return schedule.text }
 // identifies the schedule.
 func (schedule *Schedule) State() []uint64 { return append([]uint64(nil), schedule.state...) }
 
-// After makes one more step, at a moment in milliseconds and with an input. It returns the moment at
-// which the next attempt may begin; ok is false if the schedule is done. After a *Fault the schedule
-// is unchanged.
+// After makes one more step, at a moment in milliseconds from any start and with any input. It
+// returns the moment at which the next attempt may begin; ok is false if the schedule is done. After
+// a *Fault, such as one with the number Falls, the schedule is unchanged.
 func (schedule *Schedule) After(moment, input uint64) (next uint64, ok bool, err error) {
 	number := C.zs_program_step(wordsOf(schedule.program), C.size_t(len(schedule.program)), wordsOf(schedule.state),
 		C.size_t(len(schedule.state)), C.uint64_t(moment), C.uint64_t(input), &schedule.next, &schedule.visits)
@@ -210,11 +210,12 @@ type Turn struct {
 }
 
 // Plan steps the schedule at the end of an attempt. It returns when the next one may begin, from the
-// begin of the first, at most 292 years; ok is false if the loop gives up. After an error the schedule
-// is unchanged. The error is a *Fault, or that of a jitter that isn't from 0 to 1.
+// begin of the first, up to the longest Duration; ok is false if the loop gives up. After an error the
+// schedule is unchanged. The error is a *Fault, or that of a jitter that isn't from 0 to 1.
 //
-// A loop makes at most Most attempts by its Bounds, whatever its clock does. A state may be stored
-// between two turns; later ones count from the same begin.
+// The Bounds are those of a Driver with the same Jitter, and with the longest Least as Asked. A loop
+// makes at most Most attempts, whatever its clock does. A state may be stored between two turns; later
+// ones count from the same begin.
 func (schedule *Schedule) Plan(turn Turn) (begin time.Duration, ok bool, err error) {
 	percent, err := percentOf(turn.Jitter)
 	if err != nil {

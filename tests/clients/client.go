@@ -71,27 +71,26 @@ func plan(text string, percent, least, longest uint64, numbers []uint64) (said [
 	return
 }
 
-// restarted counts by a clock of the wall, in nanoseconds.
-func restarted(text string, code, back, most uint64) []any {
-	start := time.Duration(1e18)
-	clock, last, schedule := start, time.Duration(0), zsched.MustCompile(text)
-	for attempts := uint64(1); ; attempts++ {
-		if attempts == 3 {
+// restarted has a clock of the wall, in nanoseconds.
+func restarted(text string, code, back, most uint64) ([]any, error) {
+	start, attempts, last := time.Duration(1e18), uint64(0), time.Duration(0)
+	clock, ok := start, true
+	schedule, err := zsched.Compile(text)
+	for ok && err == nil && attempts < most {
+		if attempts++; attempts == 3 {
 			clock -= millis(back)
 		}
 		schedule = stored(schedule)
-		begin, ok, err := schedule.Plan(zsched.Turn{Began: clock - start, Ended: clock - start, Input: code})
-		if err != nil {
-			panic(err)
-		}
+		begin := time.Duration(0)
+		begin, ok, err = schedule.Plan(zsched.Turn{Began: clock - start, Ended: clock - start, Input: code})
 		if ok {
-			last = begin
+			last, clock = begin, start+begin
 		}
-		if !ok || attempts == most {
-			return []any{attempts, int64(last)}
-		}
-		clock = start + begin
 	}
+	if err != nil {
+		return nil, err
+	}
+	return []any{attempts, int64(last)}, nil
 }
 
 func bounds(text string, steps uint64, numbers ...uint64) ([]any, error) {
@@ -241,7 +240,7 @@ func main() {
 		case "plan":
 			said, err = plan(text, numbers[0], numbers[1], numbers[2], numbers[3:])
 		case "restarted":
-			said = restarted(text, numbers[0], numbers[1], numbers[2])
+			said, err = restarted(text, numbers[0], numbers[1], numbers[2])
 		case "retry":
 			said, err = retry(text, numbers[0], numbers[1], numbers[2:]...)
 		case "order":

@@ -6,6 +6,7 @@ import (
 	"errors"
 	"fmt"
 	"math"
+	"strings"
 	"sync"
 	"sync/atomic"
 	"testing"
@@ -123,15 +124,20 @@ func TestAScheduleStepsWithoutItsClones(t *testing.T) {
 }
 
 func TestAnOutputFollowsAStepAndHasAnyLength(t *testing.T) {
-	schedule, fault := zsched.MustCompile("(spaced(18446744073709551615) && linear(18446744073709551615))"), new(zsched.Fault)
-	wide := zsched.MustCompile("(" + schedule.String() + " && " + schedule.String() + ")")
-	if out, err := wide.Output(); out != "" || !errors.As(err, &fault) || fault.Number != zsched.NoStep {
-		t.Error(out, err)
-	}
-	_, _, err := wide.After(1, 0)
-	if out, failed := wide.Output(); err != nil || failed != nil ||
-		out != "((0,18446744073709551615),(0,18446744073709551615))" {
-		t.Error(out, err, failed)
+	fault := new(zsched.Fault)
+	for _, digits := range []string{"1", "10", "100", "1000"} {
+		for depth := 0; depth < 40; depth++ {
+			schedule := zsched.MustCompile(strings.Repeat("(", depth) + "linear(" + digits + ")" +
+				strings.Repeat(" && recurs(9))", depth))
+			if out, err := schedule.Output(); out != "" || !errors.As(err, &fault) || fault.Number != zsched.NoStep {
+				t.Error(out, err)
+			}
+			next(t, schedule, 1)
+			wanted := strings.Repeat("(", depth) + digits + strings.Repeat(",0)", depth)
+			if out, err := schedule.Output(); out != wanted || err != nil {
+				t.Error(out, err)
+			}
+		}
 	}
 }
 
@@ -168,8 +174,9 @@ func TestAStepAllocatesNothing(t *testing.T) {
 		t.Error(count)
 	}
 	schedule = schedule.Begin()
-	if count := testing.AllocsPerRun(1000, func() { turn.Ended, _, _ = schedule.Plan(turn) }); count != 0 || turn.Ended == 0 {
-		t.Error(count)
+	count := testing.AllocsPerRun(1000, func() { turn.Ended, _, _ = schedule.Plan(turn) })
+	if count != 0 || turn.Ended == 0 {
+		t.Error(count, turn.Ended)
 	}
 }
 
@@ -185,7 +192,7 @@ func TestRetryAfterIsHonouredUpToItsMost(t *testing.T) {
 	}
 }
 
-func TestAnAttemptThatBeginsEarlyCountsFromItsPlannedMoment(t *testing.T) {
+func TestAttemptsWithJitterAreWithinTheirBounds(t *testing.T) {
 	text, attempts := "(spaced(20) && elapsed).whileOutput(_2 < 400)", uint64(0)
 	_ = zsched.Retry(context.Background(), zsched.MustCompile(text), nil, func(context.Context) error {
 		attempts++
@@ -229,7 +236,8 @@ func TestWrongTextsAndNumbersAreRefused(t *testing.T) {
 	if _, err = zsched.Compile("forever.collectAll"); !errors.As(err, &fault) || fault.Number != zsched.KeepsList {
 		t.Error(err)
 	}
-	if _, err = zsched.BoundsOf("forever", 9, zsched.Driver{Least: 6, Most: 5}); !errors.As(err, &fault) || fault.Number != zsched.NoDriver {
+	_, err = zsched.BoundsOf("forever", 9, zsched.Driver{Least: 6, Most: 5})
+	if !errors.As(err, &fault) || fault.Number != zsched.NoDriver {
 		t.Error(err)
 	}
 	for _, wrong := range []float64{-1, math.NaN(), math.Inf(1)} {
