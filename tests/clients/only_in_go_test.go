@@ -57,11 +57,14 @@ func TestPermanentErrorsAreReturnedAtOnceAsTheyAre(t *testing.T) {
 }
 
 func TestAContextThatEndsInAWaitIsBothErrors(t *testing.T) {
-	ctx, cancel := context.WithTimeout(context.Background(), 20*time.Millisecond)
-	defer cancel()
-	err := zsched.Retry(ctx, zsched.MustCompile("spaced(100000)"), nil, busy)
-	if !errors.Is(err, errBusy) || !errors.Is(err, context.DeadlineExceeded) || err.Error() != "busy (context deadline exceeded)" {
-		t.Error(err)
+	longest := zsched.RetryAfter(func(error) time.Duration { return math.MaxInt64 })
+	for _, more := range [][]zsched.Option{nil, {longest, zsched.RetryAfterMost(math.MaxInt64)}} {
+		ctx, cancel := context.WithTimeout(context.Background(), 20*time.Millisecond)
+		err := zsched.Retry(ctx, zsched.MustCompile("spaced(100000)"), nil, busy, more...)
+		if !errors.Is(err, errBusy) || !errors.Is(err, context.DeadlineExceeded) || err.Error() != "busy (context deadline exceeded)" {
+			t.Error(err)
+		}
+		cancel()
 	}
 }
 
