@@ -1,11 +1,11 @@
-/* The calls of zsched.h for Node, by N-API. Texts and output buffers are Uint8Arrays, words are
- * BigUint64Arrays. zsched.js calls this. */
+/* The calls of zsched.h for Node, by N-API. Texts and output buffers are Uint8Arrays, words are BigUint64Arrays, and so
+ * are structs, without their size. zsched.js calls this. */
 #include <node_api.h>
 #include <stdarg.h>
 #include <string.h>
 #include <zsched.h>
 
-#define MOST 6
+#define MOST 5
 
 typedef struct span {
     void *data;
@@ -54,79 +54,80 @@ static napi_value result(napi_env env, uint32_t number)
     return made;
 }
 
-/* check(text, at) */
-static napi_value check(napi_env env, napi_callback_info info)
-{
-    span text, at;
-    return given(env, info, "b1", &text, &at) ? result(env, zs_check(text.data, text.length, at.data)) : NULL;
-}
-
-/* answer(text, seen, reply, out): seen has the moment and the input of each pair in turn */
-static napi_value answer(napi_env env, napi_callback_info info)
-{
-    span text, seen, reply, out;
-    if (!given(env, info, "b04b", &text, &seen, &reply, &out))
-        return NULL;
-    return result(env, zs_answer(text.data, text.length, seen.data, seen.length / 2, reply.data, out.data, out.length));
-}
-
-/* bounds(text, durations, steps, found, at): durations has the three fields of zs_durations, found the nine of struct
- * zs_bounds */
+/* bounds(text, driver, steps, found, at) */
 static napi_value bounds(napi_env env, napi_callback_info info)
 {
-    span text, durations, found, at;
+    span text, driver, found, at;
     uint64_t steps;
-    if (!given(env, info, "b3n91", &text, &durations, &steps, &found, &at))
+    if (!given(env, info, "b7n91", &text, &driver, &steps, &found, &at))
         return NULL;
-    return result(env, zs_bounds(text.data, text.length, durations.data, steps, found.data, at.data));
+    zs_driver does = ZS_DRIVER;
+    zs_run_bounds run = ZS_RUN_BOUNDS;
+    memcpy(&does.least_ms, driver.data, sizeof does - sizeof does.size);
+    uint32_t number = zs_bounds(text.data, text.length, &does, steps, &run, at.data);
+    memcpy(found.data, &run.seen, sizeof run - sizeof run.size);
+    return result(env, number);
 }
 
-/* programSize(text, size, stateSize, at) */
-static napi_value program_size(napi_env env, napi_callback_info info)
-{
-    span text, size, state_size, at;
-    if (!given(env, info, "b111", &text, &size, &state_size, &at))
-        return NULL;
-    return result(env, zs_program_size(text.data, text.length, size.data, state_size.data, at.data));
-}
-
-/* compile(text, program, at) */
+/* compile(text, program, state, sizes, at): the program, and its state before any step, in blocks of ZS_PROGRAM_MOST and
+ * ZS_STATE_MOST words, and how many words each has */
 static napi_value compile(napi_env env, napi_callback_info info)
 {
-    span text, program, at;
-    if (!given(env, info, "b01", &text, &program, &at))
+    span text, program, state, sizes, at;
+    size_t size, state_size;
+    if (!given(env, info, "b0021", &text, &program, &state, &sizes, &at))
         return NULL;
-    return result(env, zs_compile(text.data, text.length, program.data, program.length, at.data));
+    uint32_t number = zs_program_size(text.data, text.length, &size, &state_size, at.data);
+    if (number == ZS_OK)
+        number = zs_compile(text.data, text.length, program.data, program.length, at.data);
+    if (number == ZS_OK)
+        number = zs_program_begin(program.data, program.length, state.data, state.length);
+    memcpy(sizes.data, (uint64_t[]){size, state_size}, 2 * sizeof(uint64_t));
+    return result(env, number);
 }
 
-/* programBegin(program, state) */
-static napi_value program_begin(napi_env env, napi_callback_info info)
+/* step(program, state, moment, input, next) */
+static napi_value step(napi_env env, napi_callback_info info)
 {
-    span program, state;
-    if (!given(env, info, "00", &program, &state))
-        return NULL;
-    return result(env, zs_program_begin(program.data, program.length, state.data, state.length));
-}
-
-/* programStep(program, state, moment, input, reply, out) */
-static napi_value program_step(napi_env env, napi_callback_info info)
-{
-    span program, state, reply, out;
-    uint64_t moment, input;
-    if (!given(env, info, "00nn4b", &program, &state, &moment, &input, &reply, &out))
+    span program, state, next;
+    uint64_t moment, input, visits;
+    if (!given(env, info, "00nn1", &program, &state, &moment, &input, &next))
         return NULL;
     return result(env, zs_program_step(program.data, program.length, state.data, state.length, moment, input,
-                                       reply.data, out.data, out.length));
+                                       next.data, &visits));
 }
 
-/* faultText(number, at, out): returns the number of bytes of the text */
-static napi_value fault_text(napi_env env, napi_callback_info info)
+/* plan(program, state, turn, begin) */
+static napi_value plan(napi_env env, napi_callback_info info)
+{
+    span program, state, turn, begin;
+    if (!given(env, info, "0071", &program, &state, &turn, &begin))
+        return NULL;
+    const uint64_t *it = turn.data;
+    const zs_turn made = {sizeof made, it[0], it[1], it[2], it[3], it[4], (uint32_t)it[5], (uint32_t)it[6]};
+    return result(env, zs_plan(program.data, program.length, state.data, state.length, &made, begin.data));
+}
+
+/* output(program, state, out, size) */
+static napi_value output(napi_env env, napi_callback_info info)
+{
+    span program, state, out, size;
+    size_t found;
+    if (!given(env, info, "00b1", &program, &state, &out, &size))
+        return NULL;
+    uint32_t number = zs_output(program.data, program.length, state.data, state.length, out.data, out.length, &found);
+    *(uint64_t *)size.data = found;
+    return result(env, number);
+}
+
+/* strerror(number, at, out): returns the number of bytes of the text */
+static napi_value error_text(napi_env env, napi_callback_info info)
 {
     span out;
-    uint64_t fault, at;
-    if (!given(env, info, "nnb", &fault, &at, &out))
+    uint64_t number, at;
+    if (!given(env, info, "nnb", &number, &at, &out))
         return NULL;
-    return result(env, (uint32_t)zs_fault_text((uint32_t)fault, at, out.data, out.length));
+    return result(env, (uint32_t)zs_strerror((uint32_t)number, at, out.data, out.length));
 }
 
 /* version() */
@@ -136,18 +137,13 @@ static napi_value version(napi_env env, napi_callback_info info)
     return result(env, zs_version());
 }
 
+#define CALL(name, call) {name, NULL, call, NULL, NULL, NULL, napi_default, NULL}
+
 NAPI_MODULE_INIT()
 {
     const napi_property_descriptor calls[] = {
-        {"check", NULL, check, NULL, NULL, NULL, napi_default, NULL},
-        {"answer", NULL, answer, NULL, NULL, NULL, napi_default, NULL},
-        {"bounds", NULL, bounds, NULL, NULL, NULL, napi_default, NULL},
-        {"programSize", NULL, program_size, NULL, NULL, NULL, napi_default, NULL},
-        {"compile", NULL, compile, NULL, NULL, NULL, napi_default, NULL},
-        {"programBegin", NULL, program_begin, NULL, NULL, NULL, napi_default, NULL},
-        {"programStep", NULL, program_step, NULL, NULL, NULL, napi_default, NULL},
-        {"faultText", NULL, fault_text, NULL, NULL, NULL, napi_default, NULL},
-        {"version", NULL, version, NULL, NULL, NULL, napi_default, NULL},
+        CALL("bounds", bounds), CALL("compile", compile), CALL("step", step), CALL("plan", plan),
+        CALL("output", output), CALL("strerror", error_text), CALL("version", version),
     };
     return napi_define_properties(env, exports, sizeof calls / sizeof *calls, calls) == napi_ok ? exports : NULL;
 }

@@ -1,18 +1,3 @@
-/** The result of a step. */
-export interface Answer {
-  /** Whether the schedule is done. */
-  done: boolean;
-  /**
-   * The moment at which the next attempt may begin, in milliseconds, or null if the schedule is
-   * done.
-   */
-  next: bigint | null;
-  /** The text of the step's output. */
-  output: string;
-  /** The number of nodes of the schedule that the step visited. */
-  visits: number;
-}
-
 /**
  * The error of a call. The number and the place are those of zsched.h, and the message is the
  * library's.
@@ -23,55 +8,54 @@ export class Fault extends Error {
   readonly at: bigint;
 }
 
-/** A schedule and the steps that it has seen, which are its whole state. */
-export class Schedule {
-  /**
-   * Makes the schedule of a text, which has seen these steps, as `seen` returns them. Throws a
-   * Fault if the text is no schedule, and a RangeError if a step lacks its input.
-   */
-  constructor(text: string | Uint8Array, seen?: Iterable<bigint>);
-  /** The moment and the input of each step so far, in turn, oldest first. */
-  get seen(): BigUint64Array;
-  /**
-   * Makes one more step, at a moment in milliseconds and with an input, and returns its result.
-   * After a Fault the schedule is unchanged.
-   */
-  after(moment: bigint | number, input?: bigint | number): Answer;
+/** How `plan` plans a wait. Milliseconds are rounded up; above 2^64 - 1 they count as that. */
+export interface Turn {
+  /** The least milliseconds to wait, such as a server's Retry-After: 0 without it. */
+  least?: bigint | number;
+  /** The milliseconds up to which `least` counts: 3600000 without it. */
+  longest?: bigint | number;
+  /** The share of the wait that jitter may take off, from 0 to 1, in whole percent: 0 without it. */
+  jitter?: number;
+  /** How much of that it takes off, a fraction of 2^32: 32 bits, at random without it. */
+  draw?: bigint | number;
 }
 
 /**
- * A schedule with a state of fixed size in place of its steps, so a step takes no longer after many
- * steps than after one. Its text is read once.
+ * A schedule: a program, compiled from a text, and the state of its steps. A step takes no longer
+ * after many steps than after one. A number that isn't in range is a RangeError, and changes nothing.
  */
-export class Stepper {
+export class Schedule {
   /**
    * Makes the schedule of a text, before its first step, or with a state that `state` returned; of a
-   * Stepper a copy, which shares its program. Throws a Fault for the words of another schedule's
-   * state. Words that were changed after the first aren't detected.
+   * Schedule a copy, which shares its program. Throws a Fault if the text is no schedule or has
+   * collectAll, and for the words of another schedule's state. Words that were changed after the
+   * first aren't detected.
    */
-  constructor(text: string | Uint8Array | Stepper, state?: ArrayLike<bigint> | null);
+  constructor(text: string | Uint8Array | Schedule, state?: ArrayLike<bigint> | null);
+  get text(): string;
   /**
    * The words of the state. Their number depends on the text alone; the first identifies the
    * schedule.
    */
   get state(): BigUint64Array;
+  /** Returns a schedule of the same program before its first step. */
+  begin(): Schedule;
   /**
-   * Makes one more step, at a moment in milliseconds and with an input, and returns its result.
-   * After a Fault the schedule is unchanged.
+   * Makes one more step, at a moment in milliseconds. Returns the moment at which the next attempt
+   * may begin, or null if the schedule is done. Throws a Fault if the moment is below that of the
+   * last step; the schedule is then unchanged.
    */
-  after(moment: bigint | number, input?: bigint | number): Answer;
+  after(moment: bigint | number, input?: bigint | number): bigint | null;
+  /**
+   * Makes one more step at the end of a loop's attempt. Returns when the next one begins, or null if
+   * the loop gives up. `began`, `ended` and the result are in nanoseconds from the begin of the first
+   * attempt, by any clock; negative ones count as 0, and a clock that falls as one that stands still.
+   * So the Bounds hold of each loop.
+   */
+  plan(began: bigint | number, ended: bigint | number, input?: bigint | number, turn?: Turn): bigint | null;
+  /** Returns the text of the last step's output. Throws a Fault if no step was made yet. */
+  output(): string;
 }
-
-/** The compiled text of a schedule, which any number of retries may share. */
-export class Policy {
-  /** Compiles a text. Throws a Fault if it is no schedule. */
-  constructor(text: string | Uint8Array);
-  /** Returns the schedule, before its first step. */
-  readonly begin: () => Stepper | Schedule;
-}
-
-/** Throws a Fault if the text, a string or its bytes, is no schedule. */
-export function check(text: string | Uint8Array): void;
 
 /** What a schedule does for every input; times in milliseconds. */
 export class Bounds {
@@ -94,16 +78,28 @@ export class Bounds {
   endsWithin(run: bigint | number): boolean;
 }
 
+/** What a loop over a schedule may do. */
+export interface Driver {
+  /** The least and the most milliseconds of an attempt: 1 and null, which is no limit, without it. */
+  attempt?: [least?: bigint | number, most?: bigint | number | null];
+  /** The share of each wait that jitter may take off, from 0 to 1, in whole percent: 0 without it. */
+  jitter?: number;
+  /** The longest least wait that a service may ask for, in milliseconds: 0 without it. */
+  asked?: bigint | number;
+  /** How many milliseconds late an attempt may begin: 0 without it; 2^64 - 1 is any lateness. */
+  late?: bigint | number;
+}
+
 /**
- * Returns the Bounds of a schedule, of which at most the first `steps` attempts are examined: 1000
- * without a number. They hold if each attempt takes the least to the most milliseconds of `attempt`
- * (1 or more without it), and no moment is above 999999999999999. Throws a Fault if the text is no
- * schedule, or if no attempt takes so long.
+ * Returns the Bounds of a schedule, or of a text, which may have collectAll. At most the first `steps`
+ * attempts are examined: 1000 without a number. The bounds hold for all drivers that do what `driver`
+ * says, if no moment is above 999999999999999. Throws a Fault if the text is no schedule, or if no
+ * driver does that.
  */
 export function bounds(
-  text: string | Uint8Array,
+  schedule: string | Uint8Array | Schedule,
   steps?: bigint | number,
-  attempt?: [least: bigint | number, most?: bigint | number | null],
+  driver?: Driver,
 ): Bounds;
 
 /**
@@ -136,29 +132,33 @@ export interface FailedAttempt {
   error: any;
   /** The number of the attempt, from 1. */
   number: number;
-  /** The milliseconds until the next attempt, or null if there is none. */
+  /** The milliseconds until the next attempt, or null if the retry gives up. */
   wait: number | null;
 }
 
+/** Options of a retry. After a failed attempt its hooks are called in this order. */
 export interface RetryOptions {
+  /** Whether an error is retried: each without it. If not, it is thrown, and takes no token. */
+  shouldRetry?: (failed: Pick<FailedAttempt, 'error' | 'number'>) => boolean | Promise<boolean>;
   /**
    * Returns the schedule's input of an error: 0 without it. If it throws, or returns no whole number
    * from 0 up to 2^64 - 1, the error is thrown, and what was wrong is its `notTriedAgain`, if the
-   * error is an Error.
+   * error is an Error. No token is taken.
    */
   inputOf?: (error: any) => bigint | number;
-  /** Whether to retry after an error, if the schedule continues. */
-  shouldRetry?: (failed: Pick<FailedAttempt, 'error' | 'number'>) => boolean | Promise<boolean>;
-  /** Is called after each failed attempt, before the wait. If it throws, the retry ends so. */
+  /**
+   * Returns the least milliseconds to wait after an error, such as a server's Retry-After. If it
+   * throws, or returns no number, the error is thrown as with `inputOf`.
+   */
+  retryAfter?: (error: any) => bigint | number | null | undefined;
+  /** The longest of these waits, 3600000 without it: a longer one, or Infinity, lasts as long. */
+  retryAfterMost?: number;
+  /** Is called before each wait, and when the retry gives up. If it throws, the retry ends so. */
   onFailedAttempt?: (failed: FailedAttempt) => void | Promise<void>;
   /** If it is aborted, the retry throws an Aborted. It is passed to the attempts. */
   signal?: AbortSignal;
-  /** Shortens each wait by a random part of it, of at most this share, from 0 to 1. */
+  /** Shortens each wait by a random part, of at most this share, from 0 to 1, in whole percent. */
   jitter?: number;
-  /** Returns the least milliseconds to wait after an error, such as a server's Retry-After. */
-  retryAfter?: (error: any) => number | null | undefined;
-  /** The longest of these waits, 3600000 without it: a longer one lasts as long. */
-  retryAfterMost?: number;
   /**
    * The milliseconds after which the signal of an attempt is aborted, with a TimeoutError as its
    * reason. The attempt has to heed it: no other begins before it ends.
@@ -169,19 +169,16 @@ export interface RetryOptions {
 }
 
 /**
- * Retries until an attempt, which may be asynchronous, doesn't throw, and waits between two. When
- * the schedule is done, the last error is thrown. An attempt that returns a generator is a TypeError.
- * A wait of 0 lets the event loop turn too. Time and memory don't grow with the attempts, except with
- * collectAll.
+ * Retries until an attempt, which may be asynchronous, doesn't throw, and waits between two. It gives
+ * up when the schedule is done or the budget has too few tokens, and throws the last error. An attempt
+ * that returns a generator is a TypeError. A wait of 0 lets the event loop turn too.
  *
- * The schedule is stepped at the moment when an attempt ended, but at least 1 millisecond after the
- * one that it planned for it, so its Bounds hold of each run. Without `jitter` no attempt begins
- * before its planned moment; with it an attempt that begins early counts from that moment on, so the
- * bounds hold as without, and waits are never longer. With `retryAfter` the bounds of waits are
- * those of the schedule alone.
+ * Only the program of the schedule is read, so any number of retries may share it. Each attempt begins
+ * when `plan` says, by process.hrtime, or later, so the Bounds of a driver with this jitter and longest
+ * wait hold of each run.
  */
 export function retry<T>(
-  policy: Policy,
+  schedule: Schedule,
   attempt: (number: number, signal: AbortSignal | undefined) => T | Promise<T>,
   options?: RetryOptions,
 ): Promise<T>;

@@ -1,17 +1,20 @@
 'use strict';
 // Retries by the proved schedules of zsched; zsched.d.ts says what each call does.
 //
-// A Schedule doesn't sleep, and neither does a Stepper, whose state has a fixed size; retry really
-// sleeps. The results are proved, the sleeping is not. Moments and inputs are BigInts or whole
-// numbers, from 0 up to 2^64 - 1.
+// A Schedule doesn't sleep; retry really sleeps. When attempts begin is proved, the sleeping is not.
+// Moments and inputs are BigInts or whole numbers, from 0 up to 2^64 - 1.
 const { isGeneratorObject } = require('node:util').types;
 
 const calls = load(process.env.ZSCHED_NODE || './zsched.node');
 
 const DONE = 1;
-const KEEPS_LIST = 6;
 const OTHER_STATE = 9;
-const ROOM = 256;
+const TEXT_MOST = 80;
+const OUTPUT_ROOM = 255;
+// Where programs and states are written first: none has more words.
+const [PROGRAM, STATE] = [new BigUint64Array(4004), new BigUint64Array(4004)];
+const WORD_MOST = 2n ** 64n - 1n;
+const DRAW_MOST = 2 ** 32 - 1;
 const LONGEST = 2 ** 31 - 1;
 const HOUR = 3600000;
 
@@ -32,8 +35,8 @@ function load(place) {
  */
 class Fault extends Error {
   constructor(number, at) {
-    const out = Buffer.alloc(ROOM);
-    const size = calls.faultText(BigInt(number), at, out);
+    const out = Buffer.alloc(TEXT_MOST);
+    const size = calls.strerror(BigInt(number), at, out);
     super(out.toString('ascii', 0, size));
     this.name = 'Fault';
     this.number = number;
@@ -107,134 +110,9 @@ class Bounds {
 }
 
 /** Throws the Fault that a number represents, if it is one. */
-function throwFault(number, at) {
+function throwFault(number, at = 0n) {
   if (number > DONE) {
     throw new Fault(number, at);
-  }
-}
-
-/** Returns the result of a call, which is made again, with more room, if the output didn't fit. */
-function resultOf(call) {
-  const reply = new BigUint64Array(4);
-  let out = Buffer.alloc(ROOM);
-  let number = call(reply, out);
-  if (reply[1] > ROOM) {
-    out = Buffer.alloc(Number(reply[1]));
-    number = call(reply, out);
-  }
-  throwFault(number, reply[3]);
-  const output = out.toString('ascii', 0, Number(reply[1]));
-  return { done: number === DONE, next: number === DONE ? null : reply[0], output, visits: Number(reply[2]) };
-}
-
-/** Throws a Fault if the text, a string or its bytes, is no schedule. */
-function check(text) {
-  const at = new BigUint64Array(1);
-  throwFault(calls.check(Buffer.from(text), at), at[0]);
-}
-
-/** Returns the Bounds of a schedule, of which at most the first `steps` attempts are examined. */
-function bounds(text, steps = 1000, [least, most = null] = [1]) {
-  const [found, at] = [new BigUint64Array(9), new BigUint64Array(1)];
-  const durations = BigUint64Array.of(unsigned(least), most === null ? 0n : 1n, unsigned(most ?? 0));
-  throwFault(calls.bounds(Buffer.from(text), durations, unsigned(steps), found, at), at[0]);
-  return new Bounds(found);
-}
-
-/** A schedule and the steps that it has seen, which are its whole state. */
-class Schedule {
-  #text;
-  #seen;
-
-  constructor(text, seen = []) {
-    check(text);
-    this.#text = Buffer.from(text);
-    this.#seen = BigUint64Array.from(seen);
-    if (this.#seen.length % 2 !== 0) {
-      throw new RangeError('a step has a moment and an input');
-    }
-  }
-
-  get seen() {
-    return this.#seen.slice();
-  }
-
-  after(moment, input = 0n) {
-    const seen = new BigUint64Array(this.#seen.length + 2);
-    seen.set(this.#seen);
-    seen.set([unsigned(moment), unsigned(input)], this.#seen.length);
-    const result = resultOf((reply, out) => calls.answer(this.#text, seen, reply, out));
-    this.#seen = seen;
-    return result;
-  }
-}
-
-/**
- * A schedule with a state of fixed size in place of its steps, so a step takes no longer after many
- * steps than after one. Its text is read once.
- */
-class Stepper {
-  #program;
-  #state;
-
-  constructor(text, state = null) {
-    if (text instanceof Stepper) {
-      [this.#program, this.#state] = [text.#program, text.#state];
-      return;
-    }
-    const data = Buffer.from(text);
-    const [size, stateSize, at] = [new BigUint64Array(1), new BigUint64Array(1), new BigUint64Array(1)];
-    throwFault(calls.programSize(data, size, stateSize, at), at[0]);
-    this.#program = new BigUint64Array(Number(size[0]));
-    this.#state = new BigUint64Array(Number(stateSize[0]));
-    throwFault(calls.compile(data, this.#program, at), at[0]);
-    throwFault(calls.programBegin(this.#program, this.#state), 0n);
-    if (state !== null) {
-      if (state.length !== this.#state.length || state[0] !== this.#state[0]) {
-        throw new Fault(OTHER_STATE, 0n);
-      }
-      this.#state.set(state);
-    }
-  }
-
-  get state() {
-    return this.#state.slice();
-  }
-
-  after(moment, input = 0n) {
-    const [now, code] = [unsigned(moment), unsigned(input)];
-    let state;
-    const result = resultOf((reply, out) => {
-      state = this.#state.slice();
-      return calls.programStep(this.#program, state, now, code, reply, out);
-    });
-    this.#state = state;
-    return result;
-  }
-}
-
-function unsigned(number) {
-  const whole = BigInt(number);
-  if (whole < 0n || whole >= 2n ** 64n) {
-    throw new RangeError(`${whole} is no unsigned number of 64 bits`);
-  }
-  return whole;
-}
-
-/** The compiled text of a schedule, which any number of retries may share. */
-class Policy {
-  /** Compiles a text. Throws a Fault if it is no schedule. */
-  constructor(text) {
-    try {
-      const first = new Stepper(text);
-      this.begin = () => new Stepper(first);
-    } catch (fault) {
-      if (fault.number !== KEEPS_LIST) {
-        throw fault;
-      }
-      this.begin = () => new Schedule(text);
-    }
-    Object.freeze(this);
   }
 }
 
@@ -242,6 +120,109 @@ class Policy {
 function checkRange(name, number, most) {
   if (!(number >= 0 && number <= most)) {
     throw new RangeError(`zsched: the ${name} ${number} is not from 0 to ${most}`);
+  }
+}
+
+/** Returns a whole number as a BigInt. Throws a TypeError if it is no number, and a RangeError if it isn't in range. */
+function whole(name, number, most = WORD_MOST) {
+  if (typeof number !== 'bigint' && typeof number !== 'number') {
+    throw new TypeError(`zsched: the ${name} is ${String(number)}, which is no number`);
+  }
+  if (typeof number === 'number' && !Number.isInteger(number)) {
+    throw new RangeError(`zsched: the ${name} ${number} is no whole number`);
+  }
+  checkRange(name, number, most);
+  return BigInt(number);
+}
+
+/** Returns a time, rounded up to a whole number: 0 if it is negative, and at most 2^64 - 1. */
+function time(name, number) {
+  const up = typeof number === 'number' ? Math.ceil(number) : number;
+  return up < 0 ? 0n : up > WORD_MOST ? WORD_MOST : whole(name, up);
+}
+
+/** Returns the whole percent of a share from 0 to 1. */
+function percentOf(jitter) {
+  checkRange('jitter', jitter, 1);
+  return BigInt(Math.round(100 * jitter));
+}
+
+/** Returns the Bounds of a schedule, of which at most the first `steps` attempts are examined. */
+function bounds(schedule, steps = 1000, { attempt = [], jitter = 0, asked = 0, late = 0 } = {}) {
+  const [least = 1, most = null] = attempt;
+  const text = Buffer.from(schedule instanceof Schedule ? schedule.text : schedule);
+  const driver = [whole('least', least), most === null ? 0n : 1n, whole('most', most ?? 0)];
+  driver.push(100n - percentOf(jitter), 100n, whole('least wait', asked), whole('lateness', late));
+  const [found, at] = [new BigUint64Array(9), new BigUint64Array(1)];
+  throwFault(calls.bounds(text, BigUint64Array.from(driver), whole('steps', steps), found, at), at[0]);
+  return new Bounds(found);
+}
+
+/** The compiled text of a schedule, and the state of its steps. Copies share the program. */
+class Schedule {
+  #text;
+  #program;
+  #first;
+  #state;
+
+  constructor(text, state = null) {
+    if (text instanceof Schedule) {
+      [this.#text, this.#program, this.#first] = [text.#text, text.#program, text.#first];
+      this.#state = text.#state.slice();
+    } else {
+      const [data, sizes, at] = [Buffer.from(text), new BigUint64Array(2), new BigUint64Array(1)];
+      throwFault(calls.compile(data, PROGRAM, STATE, sizes, at), at[0]);
+      this.#text = data.toString();
+      [this.#program, this.#first] = [PROGRAM.slice(0, Number(sizes[0])), STATE.slice(0, Number(sizes[1]))];
+      this.#state = this.#first.slice();
+    }
+    if (state !== null) {
+      if (state.length !== this.#first.length || state[0] !== this.#first[0]) {
+        throw new Fault(OTHER_STATE, 0n);
+      }
+      this.#state.set(state);
+    }
+  }
+
+  get text() {
+    return this.#text;
+  }
+
+  get state() {
+    return this.#state.slice();
+  }
+
+  begin() {
+    return new Schedule(this, this.#first);
+  }
+
+  after(moment, input = 0n) {
+    const next = new BigUint64Array(1);
+    const [now, code] = [whole('moment', moment), whole('input', input)];
+    return this.#next(calls.step(this.#program, this.#state, now, code, next), next);
+  }
+
+  plan(began, ended, input = 0n, { least = 0, longest = HOUR, jitter = 0, draw } = {}) {
+    const [percent, next] = [percentOf(jitter), new BigUint64Array(1)];
+    const turn = [time('begin', began), time('end', ended), whole('input', input), time('least wait', least)];
+    turn.push(time('longest wait', longest), percent);
+    turn.push(whole('draw', draw ?? (percent && Math.floor(Math.random() * 2 ** 32)), DRAW_MOST));
+    return this.#next(calls.plan(this.#program, this.#state, BigUint64Array.from(turn), next), next);
+  }
+
+  #next(number, next) {
+    throwFault(number);
+    return number === DONE ? null : next[0];
+  }
+
+  output() {
+    const size = BigUint64Array.of(BigInt(OUTPUT_ROOM));
+    let out;
+    do {
+      out = Buffer.alloc(Number(size[0]) + 1);
+      throwFault(calls.output(this.#program, this.#state, out, size));
+    } while (size[0] >= out.length);
+    return out.toString('ascii', 0, Number(size[0]));
   }
 }
 
@@ -276,34 +257,16 @@ async function sleep(until, signal) {
   } while (rest > 0n && !signal?.aborted);
 }
 
-/** Returns what hooks find for an error, or null if they fail: the error then has a `notTriedAgain`. */
-function planAfter(error, hooks) {
+/** Returns the result of hooks. If they fail, the error is thrown, with what failed as its `notTriedAgain`. */
+function resultFor(error, hooks) {
   try {
     return hooks();
   } catch (fault) {
-    if (fault instanceof Fault) {
-      throw fault;
-    }
     if (error instanceof Error && Object.isExtensible(error)) {
       error.notTriedAgain = fault;
     }
-    return null;
+    throw error;
   }
-}
-
-/** When the next attempt begins, in nanoseconds of the clock. The schedule, stepped at `moment`, plans it at `next`. */
-function begin(start, now, moment, next, error, { jitter = 0, retryAfter, retryAfterMost = HOUR }) {
-  let until = start + next * 1000000n;
-  if (jitter > 0) {
-    const early = now + BigInt(Math.round(Number(next - moment) * 1e6 * (1 - jitter * Math.random())));
-    until = early < until ? early : until;
-  }
-  const millis = retryAfter?.(error) ?? 0;
-  if (typeof millis !== 'number' || !Number.isFinite(millis)) {
-    throw new TypeError(`zsched: retryAfter returned ${String(millis)}, which is no number of milliseconds`);
-  }
-  const least = now + BigInt(Math.ceil(Math.min(millis, retryAfterMost) * 1e6));
-  return until > least ? until : least;
 }
 
 /** Returns a signal that is aborted with another, or after some milliseconds, and what has to be called at the end. */
@@ -336,56 +299,45 @@ async function outcome(attempt, number, given, most) {
   return { value };
 }
 
-async function retry(policy, attempt, options = {}) {
-  const { inputOf = () => 0, shouldRetry = () => true, onFailedAttempt = () => {} } = options;
-  const { signal, budget, attemptMost } = options;
-  if (typeof attempt !== 'function' || !(policy instanceof Policy)) {
-    throw new TypeError('zsched: the attempt is no function, or the policy is no Policy');
+async function retry(schedule, attempt, options = {}) {
+  const { inputOf = () => 0, shouldRetry = () => true, retryAfter = () => 0, onFailedAttempt = () => {} } = options;
+  const { signal, budget, attemptMost, jitter = 0, retryAfterMost: longest = HOUR } = options;
+  if (typeof attempt !== 'function' || !(schedule instanceof Schedule)) {
+    throw new TypeError('zsched: the attempt is no function, or the schedule is no Schedule');
   }
-  checkRange('jitter', options.jitter ?? 0, 1);
-  checkRange('retryAfterMost', options.retryAfterMost ?? 0, Number.MAX_SAFE_INTEGER);
+  checkRange('jitter', jitter, 1);
+  checkRange('retryAfterMost', longest, Number.MAX_SAFE_INTEGER);
   checkRange('attemptMost', attemptMost ?? 0, LONGEST);
-  let schedule;
   const start = process.hrtime.bigint();
-  let planned = 0n;
-  // How early the attempt began, in nanoseconds: it counts as if it began at its planned moment.
-  let early = 0n;
+  let began = 0n;
+  let run;
   let error;
   for (let number = 1; ; number += 1) {
     throwIfAborted(signal, error);
-    const ended = await outcome(attempt, number, signal, attemptMost);
-    if ('value' in ended) {
+    const found = await outcome(attempt, number, signal, attemptMost);
+    if ('value' in found) {
       budget?.add();
-      return ended.value;
+      return found.value;
     }
-    const before = error;
-    error = ended.error;
-    if (signal?.aborted && (error === signal.reason || error?.name === 'AbortError')) {
-      error = before ?? error;
+    const ended = process.hrtime.bigint() - start;
+    if (found.error === signal?.reason || found.error?.name === 'AbortError') {
+      throwIfAborted(signal, error ?? found.error);
     }
-    const now = process.hrtime.bigint();
-    const millis = (now - start + early) / 1000000n;
-    const moment = millis > planned ? millis : planned + 1n;
-    const again = !signal?.aborted && await shouldRetry({ error, number }) && (budget?.take() ?? true);
-    const until = again ? planAfter(error, () => {
-      const input = inputOf(error);
-      if (typeof input !== 'number' && typeof input !== 'bigint') {
-        throw new TypeError(`zsched: inputOf returned ${typeof input}, which is no whole number`);
-      }
-      schedule ??= policy.begin();
-      const result = schedule.after(moment, input);
-      planned = result.next;
-      return result.done ? null : begin(start, now, moment, planned, error, options);
-    }) : null;
-    if (until === null) {
-      await onFailedAttempt({ error, number, wait: null });
-      throwIfAborted(signal, error);
+    error = found.error;
+    if (!await shouldRetry({ error, number })) {
       throw error;
     }
-    await onFailedAttempt({ error, number, wait: Number(until - now) / 1e6 });
-    await sleep(until, signal);
-    early = start + planned * 1000000n - process.hrtime.bigint();
-    early = early > 0n ? early : 0n;
+    throwIfAborted(signal, error);
+    const [input, least] = resultFor(error, () => [
+      whole('input', inputOf(error)), time('least wait', retryAfter(error) ?? 0)]);
+    run ??= schedule.begin();
+    const begin = budget?.take() ?? true ? run.plan(began, ended, input, { least, longest, jitter }) : null;
+    await onFailedAttempt({ error, number, wait: begin === null ? null : Number(begin - ended) / 1e6 });
+    if (begin === null) {
+      throw error;
+    }
+    await sleep(start + begin, signal);
+    began = process.hrtime.bigint() - start;
   }
 }
 
@@ -393,4 +345,4 @@ function version() {
   return calls.version();
 }
 
-module.exports = { Aborted, Bounds, Budget, Fault, Policy, Schedule, Stepper, bounds, check, retry, version };
+module.exports = { Aborted, Bounds, Budget, Fault, Schedule, bounds, retry, version };
