@@ -1,10 +1,10 @@
 'use strict';
 // A real retry: a client calls a server on this machine until it is ready. It is busy at first.
 const http = require('node:http');
-const { Policy, retry } = require('./zsched.js');
+const { Schedule, retry } = require('./zsched.js');
 
 const BUSY = 3;
-const POLICY = new Policy('((exponential(20) || spaced(100)) && recurs(5)).whileInput(= 503)');
+const POLICY = new Schedule('((exponential(20) || spaced(100)) && recurs(5)).whileInput(= 503)');
 
 async function main() {
   let requests = 0;

@@ -123,13 +123,10 @@ function checkRange(name, number, most) {
   }
 }
 
-/** Returns a whole number as a BigInt. Throws a TypeError if it is no number, and a RangeError if it isn't in range. */
+/** Returns a whole number as a BigInt. Throws a TypeError if it is none, and a RangeError if it isn't in range. */
 function whole(name, number, most = WORD_MOST) {
-  if (typeof number !== 'bigint' && typeof number !== 'number') {
-    throw new TypeError(`zsched: the ${name} is ${String(number)}, which is no number`);
-  }
-  if (typeof number === 'number' && !Number.isInteger(number)) {
-    throw new RangeError(`zsched: the ${name} ${number} is no whole number`);
+  if (typeof number !== 'bigint' && !Number.isInteger(number)) {
+    throw new TypeError(`zsched: the ${name} is ${String(number)}, which is no whole number`);
   }
   checkRange(name, number, most);
   return BigInt(number);
