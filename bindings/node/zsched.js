@@ -10,11 +10,10 @@ const calls = load(process.env.ZSCHED_NODE || './zsched.node');
 const DONE = 1;
 const OTHER_STATE = 9;
 const TEXT_MOST = 80;
-const OUTPUT_ROOM = 255;
-// Where programs and states are written first: none has more words.
+// Where programs and states are written first: no other has more words.
 const [PROGRAM, STATE] = [new BigUint64Array(4004), new BigUint64Array(4004)];
 const WORD_MOST = 2n ** 64n - 1n;
-const DRAW_MOST = 2 ** 32 - 1;
+const DRAWS = 2 ** 32;
 const LONGEST = 2 ** 31 - 1;
 const HOUR = 3600000;
 
@@ -123,7 +122,7 @@ function checkRange(name, number, most) {
   }
 }
 
-/** Returns a whole number as a BigInt. Throws a TypeError if it is none, and a RangeError if it isn't in range. */
+/** Returns a whole number as a BigInt. Throws a TypeError for anything else, and a RangeError above `most`. */
 function whole(name, number, most = WORD_MOST) {
   if (typeof number !== 'bigint' && !Number.isInteger(number)) {
     throw new TypeError(`zsched: the ${name} is ${String(number)}, which is no whole number`);
@@ -155,7 +154,7 @@ function bounds(schedule, steps = 1000, { attempt = [], jitter = 0, asked = 0, l
   return new Bounds(found);
 }
 
-/** The compiled text of a schedule, and the state of its steps. Copies share the program. */
+/** A compiled text, its state before any step, and the state of its steps. Copies share the first two. */
 class Schedule {
   #text;
   #program;
@@ -175,7 +174,7 @@ class Schedule {
     }
     if (state !== null) {
       if (state.length !== this.#first.length || state[0] !== this.#first[0]) {
-        throw new Fault(OTHER_STATE, 0n);
+        throwFault(OTHER_STATE);
       }
       this.#state.set(state);
     }
@@ -203,7 +202,7 @@ class Schedule {
     const [percent, next] = [percentOf(jitter), new BigUint64Array(1)];
     const turn = [time('begin', began), time('end', ended), whole('input', input), time('least wait', least)];
     turn.push(time('longest wait', longest), percent);
-    turn.push(whole('draw', draw ?? (percent && Math.floor(Math.random() * 2 ** 32)), DRAW_MOST));
+    turn.push(whole('draw', draw ?? (percent && Math.floor(DRAWS * Math.random())), DRAWS - 1));
     return this.#next(calls.plan(this.#program, this.#state, BigUint64Array.from(turn), next), next);
   }
 
@@ -213,7 +212,7 @@ class Schedule {
   }
 
   output() {
-    const size = BigUint64Array.of(BigInt(OUTPUT_ROOM));
+    const size = BigUint64Array.of(255n);
     let out;
     do {
       out = Buffer.alloc(Number(size[0]) + 1);
@@ -317,6 +316,7 @@ async function retry(schedule, attempt, options = {}) {
       return found.value;
     }
     const ended = process.hrtime.bigint() - start;
+    // What ends by the abort of its signal is no failed attempt.
     if (found.error === signal?.reason || found.error?.name === 'AbortError') {
       throwIfAborted(signal, error ?? found.error);
     }
