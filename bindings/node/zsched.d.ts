@@ -22,7 +22,8 @@ export interface Turn {
 
 /**
  * A schedule: a program, compiled from a text, and the state of its steps. A step takes no longer
- * after many steps than after one. A number that isn't in range is a RangeError, and changes nothing.
+ * after many steps than after one. A number that isn't in range is a RangeError, and what is no whole
+ * number a TypeError; both change nothing.
  */
 export class Schedule {
   /**
@@ -49,8 +50,9 @@ export class Schedule {
   /**
    * Makes one more step at the end of a loop's attempt. Returns when the next one begins, or null if
    * the loop gives up. `began`, `ended` and the result are in nanoseconds from the begin of the first
-   * attempt, by any clock; negative ones count as 0, and a clock that falls as one that stands still.
-   * So the Bounds hold of each loop.
+   * attempt, by any clock; negative ones count as 0, and a clock that falls as one that doesn't move.
+   * So each loop has at most the attempts that Bounds say for such a driver. Only after null, or
+   * after `after`, may a clock that falls be a Fault.
    */
   plan(began: bigint | number, ended: bigint | number, input?: bigint | number, turn?: Turn): bigint | null;
   /** Returns the text of the last step's output. Throws a Fault if no step was made yet. */
@@ -174,8 +176,8 @@ export interface RetryOptions {
  * that returns a generator is a TypeError. A wait of 0 lets the event loop turn too.
  *
  * Only the program of the schedule is read, so any number of retries may share it. Each attempt begins
- * when `plan` says, by process.hrtime, or later, so the Bounds of a driver with this jitter and longest
- * wait hold of each run.
+ * when `plan` says, by process.hrtime, or later. So there are at most the `most` attempts of Bounds for
+ * a driver with this jitter, and retryAfterMost as `asked`.
  */
 export function retry<T>(
   schedule: Schedule,
