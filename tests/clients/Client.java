@@ -4,9 +4,10 @@ import java.io.InputStreamReader;
 import java.nio.charset.StandardCharsets;
 import java.time.Duration;
 import java.util.ArrayList;
-import java.util.Arrays;
 import java.util.HexFormat;
 import java.util.List;
+import java.util.Optional;
+import java.util.OptionalLong;
 import java.util.concurrent.Callable;
 import java.util.concurrent.CompletableFuture;
 import java.util.concurrent.ExecutionException;
@@ -17,27 +18,85 @@ import java.util.concurrent.TimeoutException;
 import zsched.Budget;
 import zsched.Retry;
 import zsched.Schedule;
-import zsched.Stepper;
 
 /** The client of the library in Java. client.c documents the requests and the lines. */
 public final class Client {
     private static final Budget BUDGET = new Budget(10, 0.5);
-
-    private static String word(Schedule.Answer step) {
-        String next = step.done() ? "0" : Long.toUnsignedString(step.next());
-        return (step.done() ? 1 : 0) + "," + next + "," + step.visits() + "," + step.output();
-    }
+    private static final long SECOND = 1_000_000_000;
 
     private static void steps(String command, String text, long[] numbers, List<Object> said) {
-        Schedule schedule = command.equals("list") ? new Schedule(text) : null;
-        Stepper stepper = schedule == null ? new Stepper(text) : null;
+        Schedule schedule = new Schedule(text);
         for (int i = 0; i < numbers.length; i += 2) {
             if (command.equals("stored")) {
-                stepper = Stepper.resume(text, stepper.state());
+                schedule = Schedule.resume(text, schedule.state());
             }
-            long moment = numbers[i], input = numbers[i + 1];
-            said.add(word(schedule == null ? stepper.after(moment, input) : schedule.after(moment, input)));
+            OptionalLong next = schedule.after(numbers[i], numbers[i + 1]);
+            said.add((next.isPresent() ? 0 : 1) + "," + Long.toUnsignedString(next.orElse(0)) + "," + schedule.output());
         }
+    }
+
+    /** A time of so many units, of which a second has `perSecond`. */
+    private static Duration time(long number, long perSecond) {
+        return Duration.ofSeconds(Long.divideUnsigned(number, perSecond),
+            Long.remainderUnsigned(number, perSecond) * (SECOND / perSecond));
+    }
+
+    private static String nanos(Duration time) {
+        return Long.toUnsignedString(time.getSeconds() * SECOND + time.getNano());
+    }
+
+    private static void plan(String text, long[] numbers, List<Object> said) {
+        Schedule schedule = new Schedule(text);
+        for (int i = 3; i < numbers.length; i += 4) {
+            Optional<Duration> begin = schedule.plan(time(numbers[i], SECOND), time(numbers[i + 1], SECOND), numbers[i + 2],
+                time(numbers[1], 1000), time(numbers[2], 1000), numbers[0] / 100.0, (int) numbers[i + 3]);
+            said.add(begin.map(it -> "0," + nanos(it)).orElse("1,0"));
+        }
+    }
+
+    /** A loop that is started again after each attempt, and a wall clock that is set back before the third one. */
+    private static void restarted(String text, long[] numbers, List<Object> said) {
+        Duration start = Duration.ofSeconds(SECOND), clock = start, begin = Duration.ZERO;
+        Schedule schedule = new Schedule(text);
+        long attempts = 0;
+        for (boolean isDone = false; !isDone && attempts < numbers[2]; ) {
+            clock = ++attempts == 3 ? clock.minus(time(numbers[1], 1000)) : clock;
+            Optional<Duration> next = schedule.plan(clock.minus(start), clock.minus(start), numbers[0]);
+            isDone = next.isEmpty();
+            begin = next.orElse(begin);
+            clock = start.plus(begin);
+            schedule = Schedule.resume(text, schedule.state());
+        }
+        said.addAll(List.of(attempts, nanos(begin)));
+    }
+
+    /** What a retry calls, in order, how it ends, and the tokens that remain. */
+    private static void order(String text, String what, List<Object> said) throws Exception {
+        Budget budget = what.equals("broke") ? new Budget(1, 0) : new Budget(10, 0.5);
+        Retry retry = Retry.of(text).budget(budget).on(error -> !what.equals("unretried")).inputOf(error -> {
+            said.add("input");
+            return what.equals("input") ? -1 : 7;
+        }).retryAfter(error -> {
+            said.add("least");
+            if (what.equals("least")) {
+                throw new ArithmeticException("least");
+            }
+            return null;
+        }).onFailure(failure -> said.add(failure.delay() == null ? "end" : "sleep"));
+        try {
+            retry.call(() -> {
+                said.add("attempt");
+                if (what.equals("cancelled")) {
+                    Thread.currentThread().interrupt();
+                }
+                throw new IOException("7");
+            });
+        } catch (InterruptedException cancelled) {
+            said.add("cancelled");
+        } catch (IOException error) {
+            said.add(error.getMessage());
+        }
+        said.add(budget.tokens());
     }
 
     private static void retry(String command, String text, long[] numbers, List<Object> said) throws Exception {
@@ -130,33 +189,50 @@ public final class Client {
     }
 
     private static void bounds(String text, long[] numbers, List<Object> said) {
-        Schedule.Bounds found = numbers.length == 1 ? Schedule.bounds(text, numbers[0])
-            : Schedule.bounds(text, numbers[0], Duration.ofMillis(numbers[1]), Duration.ofMillis(numbers[2]));
-        said.addAll(List.of(found.seen(), found.least(), found.most().isPresent() ? 1 : 0, found.most().orElse(0), found.longest(),
-            found.total().isPresent() ? 1 : 0, found.total().orElse(0), found.longestRun().isPresent() ? 1 : 0, found.longestRun().orElse(0)));
+        Schedule.Bounds found = switch (numbers.length) {
+            case 1 -> Schedule.bounds(text, numbers[0]);
+            case 3 -> Schedule.bounds(text, numbers[0], new Schedule.Driver(time(numbers[1], 1000), time(numbers[2], 1000)));
+            default -> Schedule.bounds(text, numbers[0], new Schedule.Driver(time(numbers[1], 1000), time(numbers[2], 1000),
+                numbers[3] / 100.0, time(numbers[4], 1000), time(numbers[5], 1000)));
+        };
+        List<OptionalLong> limits = List.of(found.most(), OptionalLong.of(found.longest()), found.total(), found.longestRun());
+        said.addAll(List.of(found.seen(), found.least()));
+        for (OptionalLong limit : limits) {
+            if (limit != limits.get(1)) {
+                said.add(limit.isPresent() ? 1 : 0);
+            }
+            said.add(Long.toUnsignedString(limit.orElse(0)));
+        }
     }
 
     private static void many(String text, long count) {
-        Stepper schedule = new Stepper(text);
+        Schedule schedule = new Schedule(text);
         long moment = 0;
         for (long i = 1; i <= count; i++) {
-            moment = schedule.after(moment, 503).next();
+            moment = schedule.after(moment, 503).getAsLong();
             if (i % (count / 10) == 0) {
                 System.out.println();
             }
         }
     }
 
-    private static void serve(String command, String text, long[] numbers, List<Object> said) throws Exception {
+    private static void serve(String command, String text, List<String> words, List<Object> said) throws Exception {
+        if (command.equals("order")) {
+            order(text, words.get(0), said);
+            return;
+        }
         String[] lines = text.split("\n");
+        long[] numbers = words.stream().mapToLong(Long::parseUnsignedLong).toArray();
         switch (command) {
             case "version" -> said.add(Schedule.version());
-            case "moved" -> Stepper.resume(lines[1], new Stepper(lines[0]).state());
+            case "moved" -> Schedule.resume(lines[1], new Schedule(lines[0]).state());
             case "retry", "later" -> retry(command, text, numbers, said);
             case "limited", "limited_later" -> limited(command, text, numbers, said);
             case "good" -> said.add(good(text, numbers[0]));
             case "bounds" -> bounds(text, numbers, said);
             case "many" -> many(text, numbers[0]);
+            case "plan" -> plan(text, numbers, said);
+            case "restarted" -> restarted(text, numbers, said);
             default -> steps(command, text, numbers, said);
         }
     }
@@ -168,7 +244,7 @@ public final class Client {
             String text = new String(HexFormat.of().parseHex(words[1].substring(1)), StandardCharsets.UTF_8);
             List<Object> said = new ArrayList<>();
             try {
-                serve(words[0], text, Arrays.stream(words).skip(2).mapToLong(Long::parseUnsignedLong).toArray(), said);
+                serve(words[0], text, List.of(words).subList(2, words.length), said);
             } catch (Schedule.Fault fault) {
                 said.add(fault.number + "," + Long.toUnsignedString(fault.at) + "," + fault.getMessage());
             }

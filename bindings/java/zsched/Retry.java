@@ -9,9 +9,9 @@ import java.util.concurrent.CompletionException;
 import java.util.concurrent.CompletionStage;
 import java.util.concurrent.Future;
 import java.util.concurrent.ScheduledExecutorService;
-import java.util.concurrent.ThreadLocalRandom;
 import java.util.concurrent.TimeUnit;
 import java.util.concurrent.TimeoutException;
+import java.util.function.BooleanSupplier;
 import java.util.function.Consumer;
 import java.util.function.Function;
 import java.util.function.LongConsumer;
@@ -24,18 +24,17 @@ import java.util.function.ToLongFunction;
  * A retry by a proved schedule: {@link #call} sleeps on the calling thread, {@link #callAsync} waits
  * in a scheduler. Its text is compiled once. Its options return a changed copy, so threads may share it.
  *
- * <p>Moments are in milliseconds from the start of the first attempt. The schedule is stepped at the
- * moment when an attempt ended, but at least 1 millisecond after the one that it planned for it, so
- * its {@link Schedule#bounds} hold of each run. Without {@link #jitter} no attempt begins before its
- * planned moment; with it an attempt that begins early counts from that moment on, so the bounds hold
- * as without, and waits are never longer. Time and memory don't grow with the number of attempts,
- * except for a schedule with collectAll, whose output grows.
+ * <p>Each attempt that fails is planned by {@link Schedule#plan}, in nanoseconds of the clock from the begin of the
+ * first attempt, so the {@link Schedule#bounds} of a driver with this {@link #jitter} and longest {@link #retryAfter}
+ * hold of each run, if attempts take as long as that driver says. A call that doesn't fail steps nothing.
  *
- * <p>What a function or listener of {@link #inputOf}, {@link #on}, {@link #onFailure} or
- * {@link #retryAfter} throws ends the retry: the attempt's error is thrown, which suppresses it.
+ * <p>After a failed attempt these happen in order: {@link #on}; an interrupt or cancel ends the call;
+ * {@link #inputOf}; {@link #retryAfter}; the {@link #budget}'s token; the schedule's step; {@link #onFailure}; the
+ * sleep. What a function or listener of these throws ends the retry: the attempt's error is thrown, which
+ * suppresses it.
  */
 public final class Retry implements Cloneable {
-    /** A failed attempt: its error, its number from 1, and the wait until the next, or null without one. */
+    /** A failed attempt: its error, its number from 1, and the exact wait from its end, or null without a next one. */
     public record Failure(Exception error, long number, Duration delay) { }
 
     /** The error of an attempt whose result is retried ({@link #retryOnResult}). It has no stack trace. */
@@ -57,9 +56,7 @@ public final class Retry implements Cloneable {
         void sleep(Duration time) throws InterruptedException;
     }
 
-    private static final long LONGEST = Long.MAX_VALUE / 1_000_000;
-
-    private final Supplier<Schedule.Follower> begins;
+    private final Schedule schedule;
     private ToLongFunction<Exception> inputOf = error -> 0;
     private Predicate<Exception> isWanted = error -> true;
     private Predicate<Object> isBad = result -> false;
@@ -73,10 +70,13 @@ public final class Retry implements Cloneable {
     private double jitter;
     private Budget budget;
 
-    private Retry(Supplier<Schedule.Follower> begins) { this.begins = begins; }
+    private Retry(Schedule schedule) { this.schedule = schedule; }
 
     /** Returns the retry of a schedule's text. Throws {@link Schedule.Fault}. */
-    public static Retry of(String text) { return new Retry(Schedule.begins(text)); }
+    public static Retry of(String text) { return new Retry(new Schedule(text)); }
+
+    /** Returns the retry of a schedule, of which each call {@link Schedule#begin begins} one. */
+    public static Retry of(Schedule schedule) { return new Retry(Objects.requireNonNull(schedule)); }
 
     private Retry with(Consumer<Retry> change) {
         try {
@@ -88,7 +88,7 @@ public final class Retry implements Cloneable {
         }
     }
 
-    /** Sets what the schedule's input of an error is: 0 without it. */
+    /** Sets what the schedule's input of an error is: 0 without it. One below 0 ends the retry as a throw does. */
     public Retry inputOf(ToLongFunction<Exception> inputOf) {
         return with(it -> it.inputOf = inputOf);
     }
@@ -105,7 +105,7 @@ public final class Retry implements Cloneable {
      */
     public Retry retryOnResult(Predicate<Object> isBad) { return with(it -> it.isBad = isBad); }
 
-    /** Adds a listener, which is called after each failed attempt, before the wait. */
+    /** Adds a listener, which is called before each wait, and when the schedule or the budget gives up. */
     public Retry onFailure(Consumer<Failure> listener) {
         return with(it -> it.onFailure = onFailure.andThen(listener));
     }
@@ -123,17 +123,15 @@ public final class Retry implements Cloneable {
         });
     }
 
-    /** Shortens each wait by a random part of it, of at most this share: from 0 to 1, else it throws. */
+    /** Shortens each wait by a random part of it, of at most this share, in whole percent: 0 to 1, else it throws. */
     public Retry jitter(double share) {
-        if (!(share >= 0 && share <= 1)) {
-            throw new IllegalArgumentException("zsched: a jitter of " + share + " is not from 0 to 1");
-        }
+        Schedule.percent(share);
         return with(it -> it.jitter = share);
     }
 
     /**
      * Sets how long to wait at least after an error, such as a server's Retry-After; null is no
-     * limit. The bound of all attempts still holds then; those of waits are the schedule's alone.
+     * limit. Bounds of waits hold then with this as what {@link Schedule.Driver} has as asked.
      */
     public Retry retryAfter(Function<Exception, Duration> least) {
         return with(it -> it.retryAfter = least);
@@ -158,7 +156,7 @@ public final class Retry implements Cloneable {
      */
     public <T> T call(Callable<T> attempt) throws Exception {
         Objects.requireNonNull(attempt, "attempt");
-        Run run = new Run();
+        Run run = new Run(Thread::interrupted);
         while (true) {
             run.begin();
             T value = null;
@@ -172,11 +170,17 @@ public final class Retry implements Cloneable {
                 throw new IllegalArgumentException(
                     "zsched: the attempt returned a future, which may still fail: use callAsync");
             }
-            long nanos = run.delayAfter(value, error);
-            if (nanos < 0) {
-                return value;
+            try {
+                if (!run.isRetried(value, error)) {
+                    return value;
+                }
+                sleeper.sleep(run.rest());
+            } catch (InterruptedException interrupted) {
+                if (interrupted != error) {
+                    interrupted.addSuppressed(run.error);
+                }
+                throw interrupted;
             }
-            run.sleep(nanos);
         }
     }
 
@@ -190,7 +194,7 @@ public final class Retry implements Cloneable {
             ScheduledExecutorService scheduler) {
         Objects.requireNonNull(attempt, "attempt");
         CompletableFuture<T> ended = new CompletableFuture<>();
-        Run run = new Run();
+        Run run = new Run(ended::isDone);
         start(run, attempt, scheduler, ended);
         ended.whenComplete((value, error) -> run.pending.cancel(true));
         return ended;
@@ -199,7 +203,7 @@ public final class Retry implements Cloneable {
     /** Makes an attempt, and interrupts it when its time is over. */
     private <T> T limited(Callable<T> attempt) throws Exception {
         CompletableFuture<Void> limit = new CompletableFuture<>();
-        limit.orTimeout(attemptMost.toNanos(), TimeUnit.NANOSECONDS);
+        limit.orTimeout(TimeUnit.NANOSECONDS.convert(attemptMost), TimeUnit.NANOSECONDS);
         Thread caller = Thread.currentThread();
         CompletableFuture<Void> interrupting = limit.exceptionally(over -> {
             caller.interrupt();
@@ -252,11 +256,11 @@ public final class Retry implements Cloneable {
                 if (error != null && !(error instanceof Exception)) {
                     throw error;
                 }
-                long nanos = run.delayAfter(value, (Exception) error);
-                if (nanos < 0) {
+                if (!run.isRetried(value, (Exception) error)) {
                     ended.complete(value);
                 } else {
                     Runnable next = () -> start(run, attempt, scheduler, ended);
+                    long nanos = TimeUnit.NANOSECONDS.convert(run.rest());
                     run.follow(scheduler.schedule(next, nanos, TimeUnit.NANOSECONDS), ended);
                 }
             } catch (Throwable last) {
@@ -268,24 +272,32 @@ public final class Retry implements Cloneable {
         });
     }
 
-    /** One call: its schedule, start, last error, number of attempts, and the planned moment of the last one. */
+    /** One call: its schedule, last error, number of attempts, and when the last one began and the next one may. */
     private final class Run {
+        private final BooleanSupplier isCancelled;
         private final long start = clock.getAsLong();
-        private Schedule.Follower schedule; // begins at the first error; most calls have none
+        private Schedule state; // begins at the first failure; most calls have none
         private Exception error;
-        private long now;
         private long number;
-        private long planned;
-        private long early;
+        private Duration began;
+        private Duration next;
         private volatile Future<?> pending = CompletableFuture.completedFuture(null);
         private volatile Future<?> limit = pending;
         private volatile boolean isLate;
 
-        /** Returns the nanoseconds since the start, 0 while the clock is below it. */
-        private long elapsed() { return Math.max(0, clock.getAsLong() - start); }
+        Run(BooleanSupplier isCancelled) { this.isCancelled = isCancelled; }
 
-        /** Notes how early an attempt begins: it counts as if it began at its planned moment. */
-        void begin() { early = planned == 0 ? 0 : Math.max(0, nanos(planned) - elapsed()); }
+        /** Returns the time since the start, 0 while the clock is below it. */
+        private Duration elapsed() { return Duration.ofNanos(Math.max(0, clock.getAsLong() - start)); }
+
+        /** Notes when an attempt begins. */
+        void begin() { began = elapsed(); }
+
+        /** Returns the time until the next attempt may begin. */
+        Duration rest() {
+            Duration rest = next.minus(elapsed());
+            return rest.isNegative() ? Duration.ZERO : rest;
+        }
 
         /** Cancels an attempt when its time is over, unless it ends before. */
         void limit(CompletionStage<?> attempt, ScheduledExecutorService scheduler) {
@@ -295,7 +307,7 @@ public final class Retry implements Cloneable {
                 limit = scheduler.schedule(() -> {
                     isLate = true;
                     future.cancel(true);
-                }, attemptMost.toNanos(), TimeUnit.NANOSECONDS);
+                }, TimeUnit.NANOSECONDS.convert(attemptMost), TimeUnit.NANOSECONDS);
             }
         }
 
@@ -315,24 +327,31 @@ public final class Retry implements Cloneable {
             }
         }
 
-        /** Ends an attempt: the nanoseconds to the next one, or -1 if its value is returned, or throws its error. */
-        long delayAfter(Object value, Exception thrown) throws Exception {
+        /** Ends an attempt. Returns whether it is retried; else its value is returned, or throws its error. */
+        boolean isRetried(Object value, Exception thrown) throws Exception {
             number++;
             if (thrown == null && !isBad.test(value)) {
                 if (budget != null) {
                     budget.add();
                 }
                 onSuccess.accept(number);
-                return -1;
+                return false;
             }
+            Duration ended = elapsed();
             error = thrown == null ? new BadResult(value) : thrown;
             try {
-                long nanos = plan();
-                onFailure.accept(new Failure(error, number, nanos < 0 ? null : Duration.ofNanos(nanos)));
-                if (nanos < 0 && thrown != null) {
+                if (thrown != null && (thrown instanceof InterruptedException || !isWanted.test(thrown))) {
                     throw thrown;
                 }
-                return nanos;
+                if (isCancelled.getAsBoolean()) {
+                    throw new InterruptedException();
+                }
+                next = plan(ended);
+                onFailure.accept(new Failure(error, number, next == null ? null : next.minus(ended)));
+                if (next == null && thrown != null) {
+                    throw thrown;
+                }
+                return next != null;
             } catch (RuntimeException | Error fault) {
                 if (fault != error) {
                     error.addSuppressed(fault);
@@ -341,58 +360,29 @@ public final class Retry implements Cloneable {
             }
         }
 
-        /** Steps the schedule. Returns the nanoseconds from now to the next attempt, or -1 if there is none. */
-        private long plan() {
-            now = elapsed();
-            long elapsed = (now + Math.min(early, Long.MAX_VALUE - now)) / 1_000_000;
-            long first = planned == -1 ? planned : planned + 1;
-            long moment = Long.compareUnsigned(elapsed, first) > 0 ? elapsed : first;
-            boolean isRetried = error instanceof BadResult
-                || !(error instanceof InterruptedException) && isWanted.test(error);
-            if (!isRetried || budget != null && !budget.take()) {
-                return -1;
+        /** Returns when the next attempt may begin, or null if none follows. */
+        private Duration plan(Duration ended) {
+            long input = inputOf.applyAsLong(error);
+            if (input < 0) {
+                throw new IllegalArgumentException("zsched: the input " + input + " is below 0");
             }
-            if (schedule == null) {
-                schedule = begins.get();
+            Duration least = Objects.requireNonNullElse(retryAfter.apply(error), Duration.ZERO);
+            if (budget != null && !budget.take()) {
+                return null;
             }
-            Schedule.Answer result = schedule.after(moment, inputOf.applyAsLong(error));
-            if (result.done()) {
-                return -1;
+            if (state == null) {
+                state = schedule.begin();
             }
-            long nanos = nanos(result.next()) - Math.max(now, nanos(planned));
-            if (jitter > 0) {
-                double part = 1 - jitter * ThreadLocalRandom.current().nextDouble();
-                nanos = Math.min(nanos, (long) (nanos(result.next() - moment) * part));
-            }
-            Duration least = retryAfter.apply(error);
-            long most = TimeUnit.NANOSECONDS.convert(retryAfterMost);
-            planned = result.next();
-            long longer = least == null ? 0 : Math.min(TimeUnit.NANOSECONDS.convert(least), most);
-            return Math.max(Math.max(nanos, 0), longer);
-        }
-
-        /** Sleeps these nanoseconds from the last step. */
-        void sleep(long nanos) throws InterruptedException {
-            try {
-                sleeper.sleep(Duration.ofNanos(Math.max(0, nanos - Math.max(0, elapsed() - now))));
-            } catch (InterruptedException interrupted) {
-                interrupted.addSuppressed(error);
-                throw interrupted;
-            }
+            return state.plan(began, ended, input, least, retryAfterMost, jitter).orElse(null);
         }
     }
 
-    /** Sleeps for a time. A sleep may end early, so the clock decides. */
+    /** Sleeps for a time, of 292 years at most. A sleep may end early, so the clock decides. */
     private static void sleep(Duration time) throws InterruptedException {
         long begun = System.nanoTime();
         for (long rest = 1; rest > 0; ) {
-            rest = time.toNanos() - (System.nanoTime() - begun);
+            rest = TimeUnit.NANOSECONDS.convert(time) - (System.nanoTime() - begun);
             Thread.sleep(rest > 0 ? rest / 1_000_000 + 1 : 0);
         }
-    }
-
-    /** Returns milliseconds, which are unsigned, as nanoseconds: 292 years at most. */
-    private static long nanos(long millis) {
-        return Long.compareUnsigned(millis, LONGEST) > 0 ? Long.MAX_VALUE : millis * 1_000_000;
     }
 }
