@@ -195,14 +195,12 @@ public final class Client {
             default -> Schedule.bounds(text, numbers[0], new Schedule.Driver(time(numbers[1], 1000), time(numbers[2], 1000),
                 numbers[3] / 100.0, time(numbers[4], 1000), time(numbers[5], 1000)));
         };
-        List<OptionalLong> limits = List.of(found.most(), OptionalLong.of(found.longest()), found.total(), found.longestRun());
-        said.addAll(List.of(found.seen(), found.least()));
-        for (OptionalLong limit : limits) {
-            if (limit != limits.get(1)) {
-                said.add(limit.isPresent() ? 1 : 0);
-            }
-            said.add(Long.toUnsignedString(limit.orElse(0)));
-        }
+        said.addAll(List.of(found.seen(), found.least(), limit(found.most()), Long.toUnsignedString(found.longest()),
+            limit(found.total()), limit(found.longestRun())));
+    }
+
+    private static String limit(OptionalLong bound) {
+        return (bound.isPresent() ? 1 : 0) + " " + Long.toUnsignedString(bound.orElse(0));
     }
 
     private static void many(String text, long count) {

@@ -1,7 +1,9 @@
 import java.time.Duration;
+import java.time.temporal.ChronoUnit;
 import java.util.ArrayList;
 import java.util.Iterator;
 import java.util.List;
+import java.util.OptionalLong;
 import java.util.concurrent.Callable;
 import java.util.concurrent.CompletableFuture;
 import java.util.concurrent.CompletionException;
@@ -16,7 +18,6 @@ import java.util.function.UnaryOperator;
 import zsched.Budget;
 import zsched.Retry;
 import zsched.Schedule;
-import zsched.Stepper;
 
 /** Tests what only the binding for Java has. Exits with status 1 at the first difference. */
 public final class OnlyInJava {
@@ -32,23 +33,26 @@ public final class OnlyInJava {
         throw new Exception("busy", BUSY);
     }
 
-    /** An interrupt keeps the last error, and isn't retried. */
+    /** An interrupt keeps the last error, takes no token and isn't retried; one in a sleep comes after the listener. */
     private static void interrupt() throws Exception {
+        List<Object> told = new ArrayList<>();
+        Budget budget = new Budget(10, 0.5);
+        Retry retry = Retry.of("spaced(100000)").budget(budget).onFailure(told::add);
+        for (int tokens : new int[] {10, 9}) {
+            Thread.currentThread().interrupt();
+            Exception error = thrown(() -> (tokens == 10 ? retry : retry.on(any -> Thread.interrupted()).onFailure(
+                failure -> Thread.currentThread().interrupt())).call(OnlyInJava::fail));
+            same(List.of(error.getClass(), error.getSuppressed()[0].getMessage(), Thread.interrupted()),
+                List.of(InterruptedException.class, "busy", false));
+            same(List.of(budget.tokens(), told.size()), List.of((double) tokens, 10 - tokens));
+        }
         Thread.currentThread().interrupt();
-        try {
-            Retry.of("spaced(100000)").call(OnlyInJava::fail);
-        } catch (InterruptedException interrupted) {
-            same(interrupted.getSuppressed()[0].getMessage(), "busy");
-        }
-        int[] attempts = {0};
-        try {
-            Retry.of("forever").call(() -> {
-                attempts[0]++;
-                throw new InterruptedException();
-            });
-        } catch (InterruptedException interrupted) {
-            same(attempts[0], 1);
-        }
+        same(List.of(thrown(() -> retry.on(error -> false).call(OnlyInJava::fail)).getMessage(), Thread.interrupted()), List.of("busy", true));
+        same(thrown(() -> Retry.of("forever").call(() -> {
+            told.add("attempt");
+            throw new InterruptedException();
+        })).getClass(), InterruptedException.class);
+        same(told.size(), 2);
     }
 
     /** What an attempt, or a future's completion, throws. */
@@ -71,14 +75,19 @@ public final class OnlyInJava {
         ScheduledExecutorService scheduler = Executors.newScheduledThreadPool(1);
         List<UnaryOperator<Retry>> hooks = List.of(
             retry -> retry.inputOf(error -> hook()), retry -> retry.on(error -> hook() == 0), retry -> retry.onFailure(failure -> hook()),
-            retry -> retry.retryAfter(error -> Duration.ofNanos(hook())), retry -> retry.onFailure(failure -> same(failure, "hook")));
+            retry -> retry.retryAfter(error -> Duration.ofNanos(hook())), retry -> retry.onFailure(failure -> same(failure, "hook")),
+            retry -> retry.inputOf(error -> -1));
         for (UnaryOperator<Retry> hook : hooks) {
-            Retry retry = hook.apply(Retry.of("recurs(9)"));
+            Budget budget = new Budget(10, 0.5);
+            boolean isLast = hooks.indexOf(hook) == 2 || hooks.indexOf(hook) == 4;
+            Retry retry = hook.apply(Retry.of("recurs(9)").budget(budget));
             for (Exception error : List.of(thrown(() -> retry.call(OnlyInJava::fail)),
                     thrown(() -> retry.callAsync(() -> CompletableFuture.failedFuture(new Exception("busy")), scheduler).get(60, TimeUnit.SECONDS)))) {
-                same(List.of(error.getMessage(), error.getSuppressed()[0].getMessage().endsWith("hook"), error.getSuppressed().length),
-                    List.of("busy", true, 1));
+                String why = error.getSuppressed()[0].getMessage();
+                same(List.of(error.getMessage(), why.endsWith("hook") || why.equals("zsched: the input -1 is below 0"),
+                    error.getSuppressed().length), List.of("busy", true, 1));
             }
+            same(budget.tokens(), isLast ? 8.0 : 10.0);
         }
         scheduler.shutdown();
     }
@@ -133,46 +142,79 @@ public final class OnlyInJava {
         same(now[0], 7 + 9 * 5_000_000L + 110 * 1_000_000L);
     }
 
-    /** An attempt that a jitter begins early counts from its planned moment on, so it makes no more attempts. */
+    /** The bounds of a driver with the jitter hold of each run. */
     private static void early() {
         String text = "(spaced(1000) && elapsed).whileOutput(_2 < 20000)";
+        Duration half = Duration.ofMillis(500);
         for (double jitter : new double[] {0, 0.5, 1}) {
+            Schedule.Bounds bounds = Schedule.bounds(text, 1000, new Schedule.Driver(half, half, jitter, Duration.ZERO, Duration.ZERO));
             long[] now = {7};
             int[] attempts = {0};
             Retry retry = Retry.of(text).jitter(jitter).clock(() -> now[0], time -> now[0] += time.toNanos());
             same(thrown(() -> retry.call(() -> {
                 attempts[0]++;
-                now[0] += 500_000_000;
+                now[0] += half.toNanos();
                 return fail();
             })).getMessage(), "busy");
-            same(attempts[0], 15);
+            same(jitter > 0 || attempts[0] == 15, true);
+            same(attempts[0] <= bounds.most().getAsLong() && now[0] - 7 <= bounds.longestRun().getAsLong() * 1_000_000, true);
         }
     }
 
-    /** A clock that falls below its start stands still: the waits are those of the schedule. */
+    /** A clock that falls below its start stands still, and each sleep ends when it is at the planned begin. */
     private static void falling() {
-        long[] now = {0};
-        int[] attempts = {0};
-        List<Object> slept = new ArrayList<>();
-        Retry retry = Retry.of("(spaced(30) && recurs(5))").clock(() -> now[0], time -> {
-            slept.add(time.toMillis());
-            now[0] += time.toNanos();
+        for (long fall : new long[] {20, 80}) {
+            long[] now = {0};
+            int[] attempts = {0};
+            List<Object> told = new ArrayList<>();
+            Retry retry = Retry.of("(spaced(30) && recurs(5))")
+                .onFailure(failure -> told.add(failure.delay() == null ? 0L : failure.delay().toMillis())).clock(() -> now[0], time -> {
+                    same(told.get(told.size() - 1), time.toMillis());
+                    now[0] += time.toNanos();
+                });
+            same(thrown(() -> retry.call(() -> {
+                now[0] -= ++attempts[0] == 2 ? fall * 1_000_000 : 0;
+                return fail();
+            })).getMessage(), "busy");
+            same(told, fall == 20 ? List.of(31L, 51L, 31L, 31L, 31L, 0L) : List.of(31L, 62L, 80L, 31L, 31L, 0L));
+        }
+    }
+
+    /** Waits of centuries overflow nowhere. */
+    private static void centuries() {
+        Retry retry = Retry.of("spaced(18446744073708)").attemptMost(ChronoUnit.FOREVER.getDuration()).clock(() -> 0, time -> {
+            same(time.toString(), "PT5124095H34M33.709S");
+            throw new InterruptedException("slept");
         });
-        same(thrown(() -> retry.call(() -> {
-            now[0] -= ++attempts[0] == 2 ? 80_000_000 : 0;
-            return fail();
-        })).getMessage(), "busy");
-        same(slept, List.of(31L, 31L, 31L, 31L, 31L));
+        same(thrown(() -> retry.call(OnlyInJava::fail)).getMessage(), "slept");
+        Retry asked = Retry.of("recurs(1)").retryAfter(error -> ChronoUnit.FOREVER.getDuration()).clock(() -> 0, time -> {
+            same(time.toString(), "PT30M");
+            throw new InterruptedException("slept");
+        });
+        same(thrown(() -> asked.retryAfterMost(Duration.ofMinutes(30)).jitter(1).call(OnlyInJava::fail)).getMessage(), "slept");
+        ScheduledExecutorService scheduler = Executors.newScheduledThreadPool(1);
+        CompletableFuture<String> waiting = retry.callAsync(() -> CompletableFuture.failedFuture(BUSY), scheduler);
+        same(List.of(waiting.isDone(), waiting.cancel(true)), List.of(false, true));
+        scheduler.shutdownNow();
     }
 
     /** Wrong texts and numbers are errors, and an option changes no other retry. */
     private static void wrong() throws Exception {
         same(((Schedule.Fault) thrown(() -> Retry.of("recurs("))).at, 7L);
+        same(((Schedule.Fault) thrown(() -> Retry.of("recurs(1).collectAll"))).number, 6);
+        same(((Schedule.Fault) thrown(() -> new Schedule("forever").output())).number, 2);
         for (double wrong : new double[] {-0.1, Double.NaN, Double.POSITIVE_INFINITY}) {
             same(thrown(() -> new Budget(wrong, 0.1)).getClass(), IllegalArgumentException.class);
             same(thrown(() -> new Budget(10, wrong)).getClass(), IllegalArgumentException.class);
             same(thrown(() -> Retry.of("forever").jitter(wrong)).getClass(), IllegalArgumentException.class);
+            same(thrown(() -> new Schedule("forever").plan(Duration.ZERO, Duration.ZERO, 0, Duration.ZERO, Duration.ZERO, wrong)).getClass(),
+                IllegalArgumentException.class);
+            same(thrown(() -> new Schedule.Driver(Duration.ZERO, null, wrong, Duration.ZERO, Duration.ZERO)).getClass(),
+                IllegalArgumentException.class);
         }
+        Duration below = Duration.ofNanos(-1);
+        same(thrown(() -> new Schedule.Driver(below, below, 0, below, Duration.ZERO)).getMessage(), "zsched: PT-0.000000001S or PT0S is below 0");
+        same(((Schedule.Fault) thrown(() -> Schedule.bounds("forever", 9, new Schedule.Driver(below, null)))).number, 10);
         same(new Budget(0, 0).take(), false);
         Retry retry = Retry.of("recurs(1)");
         retry.on(error -> false).retryOnResult(result -> true).onFailure(failure -> hook()).onSuccess(attempts -> hook());
@@ -180,24 +222,24 @@ public final class OnlyInJava {
         same(retry.call(() -> attempts[0]++ == 0 ? fail() : "done"), "done");
     }
 
-    /** Threads share a retry. */
+    /** Threads share a retry, and each call begins its own schedule. */
     private static void shared() throws Exception {
-        for (String text : List.of("recurs(20)", "recurs(20).collectAll")) {
-            AtomicInteger attempts = new AtomicInteger();
-            Retry retry = Retry.of(text);
-            List<Thread> threads = new ArrayList<>();
-            for (int i = 0; i < 8; i++) {
-                threads.add(new Thread(() -> thrown(() -> retry.call(() -> {
-                    attempts.incrementAndGet();
-                    return fail();
-                }))));
-            }
-            threads.forEach(Thread::start);
-            for (Thread thread : threads) {
-                thread.join();
-            }
-            same(attempts.get(), 8 * 21);
+        Schedule schedule = new Schedule("recurs(20)");
+        schedule.after(1, 0);
+        AtomicInteger attempts = new AtomicInteger();
+        Retry retry = Retry.of(schedule);
+        List<Thread> threads = new ArrayList<>();
+        for (int i = 0; i < 8; i++) {
+            threads.add(new Thread(() -> thrown(() -> retry.call(() -> {
+                attempts.incrementAndGet();
+                return fail();
+            }))));
         }
+        threads.forEach(Thread::start);
+        for (Thread thread : threads) {
+            thread.join();
+        }
+        same(List.of(attempts.get(), schedule.output()), List.of(8 * 21, "0"));
     }
 
     /** An interrupt that isn't the limit's ends the retry, and the limit's leaves none. */
@@ -270,15 +312,55 @@ public final class OnlyInJava {
 
     /** Numbers are unsigned, and bounds are held or not. */
     private static void numbers() {
-        same(new Stepper("spaced(18446744073709551615)").after(1, 0).waitFrom(1).toString(), "PT5124095576030H25M51.614S");
+        same(new Schedule("spaced(18446744073709551614)").after(1, 0), OptionalLong.of(-1));
+        same(new Schedule("spaced(18446744073709)").plan(Duration.ZERO, Duration.ZERO, 0).isEmpty(), true);
         // 6 attempts, and 3100 milliseconds
         Schedule.Bounds bounds = Schedule.bounds("(exponential(100) && recurs(5))", 1000);
         same(List.of(bounds.within(6, Duration.ofMillis(3100)), bounds.within(5, Duration.ofMillis(3100)),
             bounds.within(6, Duration.ofMillis(3099)), Schedule.bounds("spaced(1)", 9).within(-1, Duration.ofDays(1))),
             List.of(true, false, false, false));
-        Schedule.Bounds run = Schedule.bounds("recurs(100)", 1000, Duration.ofMillis(1), Duration.ofNanos(1_999_999));
+        Schedule.Bounds run = Schedule.bounds("recurs(100)", 1000, new Schedule.Driver(Duration.ofMillis(1), Duration.ofNanos(1_999_999)));
         same(List.of(run.endsWithin(Duration.ofMillis(202)), run.endsWithin(Duration.ofMillis(201)), run.endsWithin(Duration.ofMillis(-1)),
             run.within(101, Duration.ZERO), run.within(101, Duration.ofMillis(-1))), List.of(true, false, false, true, false));
+        Duration minute = Duration.ofMinutes(1), forever = ChronoUnit.FOREVER.getDuration();
+        same(List.of(driven(0, Duration.ZERO, Duration.ZERO), driven(1, minute, Duration.ZERO), driven(0, Duration.ZERO, forever)), List.of(
+            List.of(OptionalLong.of(2), 10L, OptionalLong.of(14)), List.of(OptionalLong.of(2), 60_000L, OptionalLong.of(60_004)),
+            List.of(OptionalLong.of(2), -1L, OptionalLong.empty())));
+    }
+
+    private static List<Object> driven(double jitter, Duration asked, Duration late) {
+        Schedule.Driver driver = new Schedule.Driver(Duration.ofMillis(1), Duration.ofMillis(2), jitter, asked, late);
+        Schedule.Bounds bounds = Schedule.bounds("(spaced(10) && recurs(1))", 1000, driver);
+        return List.of(bounds.most(), bounds.longest(), bounds.longestRun());
+    }
+
+    /** Copies share a program and no state, and a state can be resumed. */
+    private static void copies() {
+        Schedule schedule = new Schedule("(linear(10) && recurs(3))");
+        schedule.after(1, 0);
+        Schedule copy = schedule.copy(), first = schedule.begin(), resumed = Schedule.resume(schedule.text(), schedule.state());
+        schedule.after(100, 0);
+        for (Schedule it : List.of(copy, resumed)) {
+            same(List.of(it.after(200, 0), it.output(), it.text()), List.of(OptionalLong.of(220), "(20,1)", schedule.text()));
+        }
+        same(List.of(first.after(5, 0), first.output(), schedule.output()), List.of(OptionalLong.of(15), "(10,0)", "(20,1)"));
+        same(((Schedule.Fault) thrown(() -> Schedule.resume("recurs(3)", schedule.state()))).number, 9);
+    }
+
+    /** A plan with each option, and one with a random draw. */
+    private static void plans() {
+        Schedule schedule = new Schedule("(spaced(100) && recurs(9))");
+        Duration began = Duration.ofMillis(-5), ended = Duration.ofMillis(7), hour = Duration.ofHours(1);
+        same(schedule.copy().plan(began, ended, 0).get().toMillis(), 107L);
+        same(schedule.copy().plan(began, ended, 0, Duration.ofNanos(200_000_001), hour, 0).get().toMillis(), 208L);
+        same(schedule.copy().plan(began, ended, 0, hour, Duration.ofMillis(300), 0).get().toMillis(), 307L);
+        same(schedule.copy().plan(began, ended, 0, Duration.ZERO, hour, 0.5, -1 << 31).get().toMillis(), 82L);
+        List<Long> begins = new ArrayList<>();
+        for (int i = 0; i < 100; i++) {
+            begins.add(schedule.copy().plan(began, ended, 0, Duration.ZERO, hour, 0.29).get().toNanos());
+        }
+        same(begins.stream().allMatch(it -> it >= 78_000_000 && it <= 107_000_000), true);
+        same(begins.stream().distinct().count() > 90, true);
     }
 
     public static void main(String[] words) throws Exception {
@@ -288,11 +370,14 @@ public final class OnlyInJava {
         results();
         early();
         falling();
+        centuries();
         wrong();
         shared();
         limited();
         async();
         cancelled();
         numbers();
+        copies();
+        plans();
     }
 }
