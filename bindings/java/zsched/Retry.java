@@ -24,14 +24,13 @@ import java.util.function.ToLongFunction;
  * A retry by a proved schedule: {@link #call} sleeps on the calling thread, {@link #callAsync} waits
  * in a scheduler. Its text is compiled once. Its options return a changed copy, so threads may share it.
  *
- * <p>Each attempt that fails is planned by {@link Schedule#plan}, in nanoseconds of the clock from the begin of the
- * first attempt, so the {@link Schedule#bounds} of a driver with this {@link #jitter} and longest {@link #retryAfter}
- * hold of each run, if attempts take as long as that driver says. A call that doesn't fail steps nothing.
+ * <p>The proved {@link Schedule#plan} returns when each attempt begins. So no call makes more attempts than the
+ * {@link Schedule#bounds} for a driver with this {@link #jitter} and longest {@link #retryAfter}, whatever the
+ * clock does. A call that doesn't fail steps no schedule.
  *
- * <p>After a failed attempt these happen in order: {@link #on}; an interrupt or cancel ends the call;
- * {@link #inputOf}; {@link #retryAfter}; the {@link #budget}'s token; the schedule's step; {@link #onFailure}; the
- * sleep. What a function or listener of these throws ends the retry: the attempt's error is thrown, which
- * suppresses it.
+ * <p>A failed attempt is judged in this order: {@link #on}; an interrupt or a cancel, which ends the call;
+ * {@link #inputOf}; {@link #retryAfter}; a token of the {@link #budget}; the schedule; {@link #onFailure}. What a
+ * function or listener of these throws ends the retry: the attempt's error is thrown, which suppresses it.
  */
 public final class Retry implements Cloneable {
     /** A failed attempt: its error, its number from 1, and the exact wait from its end, or null without a next one. */
@@ -131,7 +130,7 @@ public final class Retry implements Cloneable {
 
     /**
      * Sets how long to wait at least after an error, such as a server's Retry-After; null is no
-     * limit. Bounds of waits hold then with this as what {@link Schedule.Driver} has as asked.
+     * limit. The schedule's bounds then hold for a driver that has {@link #retryAfterMost} as asked.
      */
     public Retry retryAfter(Function<Exception, Duration> least) {
         return with(it -> it.retryAfter = least);
@@ -151,8 +150,8 @@ public final class Retry implements Cloneable {
 
     /**
      * Calls an attempt until there is a value or the schedule is done, and sleeps between two. At the
-     * end it throws the last error. If it is interrupted in a sleep, the InterruptedException
-     * suppresses the last error. Throws IllegalArgumentException if the value is a future.
+     * end it throws the last error. If it is interrupted in a sleep, or when an attempt has failed, the
+     * InterruptedException suppresses the last error. Throws IllegalArgumentException if the value is a future.
      */
     public <T> T call(Callable<T> attempt) throws Exception {
         Objects.requireNonNull(attempt, "attempt");

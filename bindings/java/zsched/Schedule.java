@@ -44,19 +44,20 @@ public final class Schedule {
 
     /**
      * What a loop of attempts may do, for {@link #bounds}: an attempt takes {@code least}, 1 millisecond or
-     * more, to {@code most}, or any time if that is null; {@code jitter} is a share from 0 to 1, as in {@link #plan};
-     * {@code asked} is the longest least wait that a service may ask for; and an attempt begins at most {@code late}
-     * after its planned begin, where {@code ChronoUnit.FOREVER.getDuration()} is any lateness.
+     * more, to {@code most}, which is null for any time; {@code jitter} is a share from 0 to 1, as of a plan;
+     * {@code asked} is the longest least wait that counts; an attempt begins at most {@code late} after it may,
+     * and {@code ChronoUnit.FOREVER.getDuration()} is any lateness.
      */
     public record Driver(Duration least, Duration most, double jitter, Duration asked, Duration late) {
-        /** Makes a driver, or throws IllegalArgumentException. {@link #bounds} tests least and most. */
+        /** Makes a driver, or throws IllegalArgumentException; {@link #bounds} tests the times of attempts. */
         public Driver {
-            if (percent(jitter) < 0 || asked.isNegative() || late.isNegative()) {
+            percent(jitter);
+            if (asked.isNegative() || late.isNegative()) {
                 throw new IllegalArgumentException("zsched: " + asked + " or " + late + " is below 0");
             }
         }
 
-        /** Makes a driver with attempts of these times, that has no jitter and is never late. */
+        /** Makes a driver with attempts that take so long, without jitter, least waits and lateness. */
         public Driver(Duration least, Duration most) { this(least, most, 0, Duration.ZERO, Duration.ZERO); }
     }
 
@@ -111,7 +112,7 @@ public final class Schedule {
     private final long[] program;
     private final long[] state;
 
-    /** Compiles a text, before its first step. Throws {@link Fault}, with the number 6 if the text has collectAll. */
+    /** Makes the schedule of a text, before its first step. Throws {@link Fault}: number 6 if it has collectAll. */
     public Schedule(String text) {
         byte[] bytes = text.getBytes(StandardCharsets.UTF_8);
         long[] size = new long[1];
@@ -161,8 +162,8 @@ public final class Schedule {
     public long[] state() { return state.clone(); }
 
     /**
-     * Makes one more step, at a moment in milliseconds and with an input. Returns the moment at which the
-     * next attempt may begin, or nothing if the schedule is done. Throws {@link Fault} if the moment is
+     * Makes one more step, at a moment in milliseconds and with an input, and returns the moment at which
+     * the next attempt may begin, or nothing if the schedule is done. Throws {@link Fault} if the moment is
      * below that of the step before; the schedule is then unchanged.
      */
     public OptionalLong after(long moment, long input) {
@@ -184,12 +185,12 @@ public final class Schedule {
         return new String(out, 0, (int) size[0], StandardCharsets.US_ASCII);
     }
 
-    /** Plans without jitter or a least wait. */
+    /** Plans as below, without jitter and a least wait. */
     public Optional<Duration> plan(Duration began, Duration ended, long input) {
         return plan(began, ended, input, Duration.ZERO, Duration.ZERO, 0, 0);
     }
 
-    /** Plans with a random draw. */
+    /** Plans as below, with a random draw. */
     public Optional<Duration> plan(Duration began, Duration ended, long input, Duration least, Duration longest,
             double jitter) {
         return plan(began, ended, input, least, longest, jitter, ThreadLocalRandom.current().nextInt());
@@ -197,16 +198,17 @@ public final class Schedule {
 
     /**
      * Steps the schedule at the end of a failed attempt, and returns when the next attempt may begin, or
-     * nothing if the schedule is done. All times count from the begin of the first attempt, by the clock of a loop,
-     * which may fall; times below 0 count as 0.
+     * nothing if the schedule is done. These times count from the begin of the first attempt, by the clock of a loop,
+     * which may fall; those below 0 count as 0. Throws {@link Fault} after the schedule was done.
      *
      * @param began when the attempt began
      * @param ended when it ended
      * @param input the error's code, or any number
      * @param least how long to wait at least, such as a server's Retry-After, in milliseconds rounded up
      * @param longest how much of {@code least} counts at most
-     * @param jitter the share of the wait that jitter may take off, from 0 to 1, in whole percent; else it throws
-     * @param draw how much of that it takes off: 32 random bits, a fraction of 2^32
+     * @param jitter the share of the schedule's wait that may be taken off, rounded to whole percent: 0 to 1, else
+     *     it throws IllegalArgumentException
+     * @param draw how much of that is taken off: 32 random bits, a fraction of 2^32
      */
     public Optional<Duration> plan(Duration began, Duration ended, long input, Duration least, Duration longest,
             double jitter, int draw) {
@@ -229,7 +231,7 @@ public final class Schedule {
         return bounds(text, steps, new Driver(Duration.ofMillis(1), null));
     }
 
-    /** Does the same for any loop that does what the driver says. Throws {@link Fault} if none does it, too. */
+    /** Does the same for loops that do what a driver says. Throws {@link Fault} with the number 10 if none can. */
     public static Bounds bounds(String text, long steps, Driver driver) {
         byte[] bytes = text.getBytes(StandardCharsets.UTF_8);
         boolean hasMost = driver.most != null;
