@@ -199,7 +199,8 @@ public final class Schedule {
     /**
      * Steps the schedule at the end of a failed attempt, and returns when the next attempt may begin, or
      * nothing if the schedule is done. These times count from the begin of the first attempt, by the clock of a loop,
-     * which may fall; those below 0 count as 0. Throws {@link Fault} after the schedule was done.
+     * which may fall; those below 0 count as 0. Throws {@link Fault} only if an earlier plan returned nothing, or
+     * {@link #after} was at a later moment.
      *
      * @param began when the attempt began
      * @param ended when it ended
