@@ -166,9 +166,20 @@ public final class Client {
                 return "done";
             }) : retry.callAsync(() -> {
                 say.run();
-                CompletableFuture<String> attempt = new CompletableFuture<>();
-                attempt.whenComplete((value, error) -> say.run());
-                scheduler.schedule(() -> attempt.complete("done"), said.size() <= 2 * numbers[1] ? 5000 : 0, TimeUnit.MILLISECONDS);
+                // It notes its end before the retry sees it.
+                CompletableFuture<String> attempt = new CompletableFuture<>() {
+                    @Override
+                    public boolean cancel(boolean isInterrupted) {
+                        if (!isDone()) {
+                            say.run();
+                        }
+                        return super.cancel(isInterrupted);
+                    }
+                };
+                scheduler.schedule(() -> {
+                    say.run();
+                    attempt.complete("done");
+                }, said.size() <= 2 * numbers[1] ? 5000 : 0, TimeUnit.MILLISECONDS);
                 return attempt;
             }, scheduler).get());
         } catch (TimeoutException | ExecutionException late) {
