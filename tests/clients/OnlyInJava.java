@@ -70,13 +70,19 @@ public final class OnlyInJava {
         throw new IllegalStateException("hook");
     }
 
+    /** Throws any error, as functions of Scala and Kotlin do. */
+    @SuppressWarnings("unchecked")
+    private static <E extends Exception> long sneak(Exception error) throws E {
+        throw (E) error;
+    }
+
     /** A function or listener that throws hides no error. */
     private static void hooks() {
         ScheduledExecutorService scheduler = Executors.newScheduledThreadPool(1);
         List<UnaryOperator<Retry>> hooks = List.of(
             retry -> retry.inputOf(error -> hook()), retry -> retry.on(error -> hook() == 0), retry -> retry.onFailure(failure -> hook()),
             retry -> retry.retryAfter(error -> Duration.ofNanos(hook())), retry -> retry.onFailure(failure -> same(failure, "hook")),
-            retry -> retry.inputOf(error -> -1));
+            retry -> retry.inputOf(error -> -1), retry -> retry.inputOf(error -> OnlyInJava.<RuntimeException>sneak(new Exception("hook"))));
         for (UnaryOperator<Retry> hook : hooks) {
             Budget budget = new Budget(10, 0.5);
             boolean isLast = hooks.indexOf(hook) == 2 || hooks.indexOf(hook) == 4;

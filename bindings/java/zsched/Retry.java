@@ -351,7 +351,9 @@ public final class Retry implements Cloneable {
                     throw thrown;
                 }
                 return next != null;
-            } catch (RuntimeException | Error fault) {
+            } catch (InterruptedException interrupted) {
+                throw interrupted;
+            } catch (Throwable fault) {
                 if (fault != error) {
                     error.addSuppressed(fault);
                 }
