@@ -9,6 +9,8 @@ TOP = pathlib.Path(__file__).resolve().parent.parent
 MADE = TOP / "crates" / "zsched_c" / "out"
 ABI = (TOP / "include" / "zsched.abi").read_text(encoding="utf-8")
 SONAME = re.search(r"^soname (\S+)$", ABI, re.M)[1]
+# The soname's number, which the Debian package of the shared library has too.
+NUMBER = SONAME.rpartition(".")[2]
 FUNCTIONS = re.findall(r"^function (\S+) (\S+)$", ABI, re.M)
 PC = """\
 prefix={prefix}
