@@ -17,8 +17,8 @@ FORGED = 200
 VALGRIND = ["valgrind", "--quiet", "--error-exitcode=9", "--leak-check=full", "--show-leak-kinds=all"]
 # Schedules of the greatest depth.
 DEEPEST = rows("deepest.jsonl")
-# A schedule, the numbers of struct zs_bounds in turn for at most 1000 steps, the same if attempts take at most 5 s, and
-# how they were worked out by hand.
+# A schedule, the numbers of struct zs_run_bounds for at most 1000 steps, the same if attempts take at most 5 s, and how
+# they were worked out by hand.
 BOUNDS = {it[0]: it[1:3]
           for it in (line.split("\t") for line in (TOP / "tests" / "bounds.tsv").read_text().splitlines())}
 # A policy's program, by crates/zs_c/specs/Program.antt and Code.antt.
@@ -33,18 +33,17 @@ def test_histories_have_all_faults_of_texts_and_many_steps():
     assert sum(bool(it.steps) and not it.is_flat for it in histories()) > 100
 
 
-# No step has no result, a step visits a part twice if that is reset, and a fault leaves the steps before it.
+# A text without a program has no step, a part that is reset begins anew, and a fault leaves the steps before it.
 @pytest.mark.parametrize("command, text, numbers, wanted", rows("client_lines.jsonl"))
 def test_a_request_has_its_line(client, command, text, numbers, wanted):
     assert client("C").says([request(command, text, *numbers)]) == [wanted]
 
 
-@pytest.mark.parametrize("command", ["list", "program"])
-def test_four_threads_with_small_stacks_may_call_at_once(client, command):
-    judge(client("C"), histories()[::2], command, "threads")
+def test_four_threads_with_small_stacks_may_call_at_once(client):
+    judge(client("C"), histories()[::2], "program", "threads")
 
 
-@pytest.mark.parametrize("command", ["list", "program", "bounds"])
+@pytest.mark.parametrize("command", ["program", "bounds"])
 def test_each_allocation_may_fail(client, command):
     asked = [it for it in histories() if it.is_flat and len(it.pairs) < 6][:REFUSED]
     requests = [request("bounds", text, 5) for text in BOUNDS] if command == "bounds" else [it.request(command)
@@ -56,14 +55,12 @@ def test_each_allocation_may_fail(client, command):
 
 def test_a_failed_allocation_is_a_fault_of_a_faulty_text_too(client):
     asked = [it for it in histories() if it.weight == 0][:REFUSED]
-    assert len(client("C").says([it.request("list") for it in asked], "refuse")) == len(asked) > 100
+    assert len(client("C").says([it.request("program") for it in asked], "refuse")) == len(asked) > 100
 
 
-@pytest.mark.parametrize("command", ["list", "program"])
-def test_valgrind_finds_no_error_and_no_lost_memory(client, command):
+def test_valgrind_finds_no_error_and_no_lost_memory(client):
     need("valgrind")
-    asked = histories()[:UNDER_VALGRIND]
-    judge(client("C"), asked, command, before=VALGRIND)
+    judge(client("C"), histories()[:UNDER_VALGRIND], "program", before=VALGRIND)
     assert len(client("C").says([request("bounds", text, 1000) for text in BOUNDS], before=VALGRIND)) == len(BOUNDS)
 
 
@@ -97,43 +94,50 @@ def test_the_deepest_schedules_need_no_more_stack_than_the_header_says(client):
     for name, words in [("STACK", " {} KiB of stack are free"), ("BOUNDS_STACK", "for zs_bounds {} KiB")]:
         assert words.format(re.search(rf"define {name} .(\d+) . 1024", source)[1]) in header
     asked = [History(text.encode(), [(1, 5), (5, 7), (9, 9)]) for text in DEEPEST]
-    for command in ["list", "program"]:
-        judge(client("C"), asked, command, "threads")
+    judge(client("C"), asked, "program", "threads")
     found = client("C").says([request("bounds", text, 9) for text in DEEPEST], "threads")
     assert [line.split()[0] for line in found] == ["0"] * len(DEEPEST)
 
 
-def test_long_texts_long_lists_and_many_words_are_taken(client):
+def test_long_texts_many_steps_and_many_words_are_taken(client):
     many_words = tree(400).replace("forever", "fixed(7)").encode()
     asked = [History(b"recurs(" + b" " * 100_000 + b"3)", [(5, 7)]), History(many_words, [(1, 0), (9, 0)])]
-    for command in ["list", "program"]:
-        judge(client("C"), asked, command)
+    judge(client("C"), asked, "program")
     steps = " ".join(f"{number} 0" for number in range(5000))
-    asked = [f"{command} .{b'recurs(9000)'.hex()} {steps}" for command in ["answer", "run"]]
-    assert client("C").says(asked) == ["0,4999,1,4999"] * 2
+    line, = client("C").says([request("program", "recurs(9000)", steps)])
+    assert line.split() == [f"0,{number},{number}" for number in range(5000)]
+
+
+def cut_texts(write, whole):
+    """Has a text written into rooms of all sizes: it is cut at the room's end, and its final 0 is there if it fits."""
+    for size in range(len(whole) + 3):
+        room = ctypes.create_string_buffer(b"-" * (len(whole) + 3), len(whole) + 3)
+        write(room, ctypes.c_size_t(size))
+        assert room.raw == (whole + b"\0")[:size].ljust(len(whole) + 3, b"-")
 
 
 def test_each_number_of_the_header_has_a_text_that_is_cut_where_its_room_ends(library):
     calls = ctypes.CDLL(str(library / "libzsched.so"))
-    calls.zs_fault_text.argtypes = [ctypes.c_uint32, ctypes.c_uint64, ctypes.c_char_p, ctypes.c_size_t]
-    calls.zs_fault_text.restype = ctypes.c_uint64
+    calls.zs_strerror.argtypes = [ctypes.c_uint32, ctypes.c_uint64, ctypes.c_char_p, ctypes.c_size_t]
+    calls.zs_strerror.restype = ctypes.c_size_t
 
     def text(number, at=0):
         room = ctypes.create_string_buffer(256)
-        size = calls.zs_fault_text(number, at, room, 256)
-        return room.raw[:size].decode()
-    numbers = re.findall(r"^    ZS_\w+ = (\d+)", (TOP / "include" / "zsched.h").read_text(), re.M)
+        assert calls.zs_strerror(number, at, room, 256) == len(room.value)
+        return room.value.decode()
+    header = (TOP / "include" / "zsched.h").read_text()
+    numbers = re.findall(r"^    ZS_\w+ = (\d+)", header, re.M)
+    most = int(re.search(r"define ZS_TEXT_MOST (\d+)", header)[1])
     texts = [text(int(number), 23) for number in numbers if int(number) > 1]
-    assert len(set(texts)) == len(numbers) - 2 and all(0 < len(it) <= 80 for it in texts)
+    assert len(set(texts)) == len(numbers) - 2 and all(0 < len(it) for it in texts)
+    assert all(len(text(int(number), 2 ** 64 - 1)) < most for number in numbers)
     assert [it for it in texts if "23" in it] == ["not UTF-8 at byte 23", "no term at byte 23",
                                                   "number too large at byte 23"]
-    assert [text(number) for number in [0, 1, 17, 2 ** 32 - 1]] == [""] * 4
+    assert [text(number) for number in [0, 1, len(numbers), 2 ** 32 - 1]] == [""] * 4
     assert text(11, 2 ** 64 - 1) == "no term at byte 18446744073709551615"
     whole = b"number too large at byte 1234"
-    for size in range(len(whole) + 3):
-        room = ctypes.create_string_buffer(b"-" * (len(whole) + 3))
-        assert calls.zs_fault_text(13, 1234, room, size) == len(whole)
-        assert room.value == whole[:size].ljust(len(whole) + 3, b"-")
+    cut_texts(lambda room, size: calls.zs_strerror(13, 1234, room, size), whole)
+    assert calls.zs_strerror(13, 1234, None, 0) == len(whole)
 
 
 def program_of(code, state=6):
@@ -151,45 +155,68 @@ def array(words):
 
 def test_a_program_is_the_words_that_its_definition_says(library):
     calls, at, wanted = ctypes.CDLL(str(library / "libzsched.so")), ctypes.c_uint64(), program_of(CODE)
-    words, state = array([7] * (len(wanted) + 1)), array([7] * 10)
+    words, state = array([7] * (len(wanted) + 1)), array([7] * 11)
     assert calls.zs_compile(POLICY, ctypes.c_size_t(len(POLICY)), *words, ctypes.byref(at)) == 0
     assert (at.value, list(words[0])) == (0, [*wanted, 7])
     assert calls.zs_program_begin(*words, *state) == 0
-    assert list(state[0]) == [wanted[1], 0, 0, 100, 100, 0, 0, 0, 0, 7]
+    assert list(state[0]) == [wanted[1], 0, 0, 0, 100, 100, 0, 0, 0, 0, 7]
 
 
 def test_a_zeroed_program_and_one_with_a_byte_changed_are_rejected(library):
-    calls, right, state = ctypes.CDLL(str(library / "libzsched.so")), program_of(CODE), array([7] * 9)
+    calls, right, state = ctypes.CDLL(str(library / "libzsched.so")), program_of(CODE), array([7] * 10)
     wrong = [[], [0] * 20, [right[0]] + [0] * 19, [right[0], 0, 0, 0], [right[0], 9, 0, 9], program_of([]),
              program_of([], 0)]
     wrong += [[word ^ (0xa5 << bits if at == place else 0) for at, word in enumerate(right)]
               for place in range(len(right)) for bits in range(0, 64, 8)]
-    assert {calls.zs_program_begin(*array(words), *state) for words in wrong} == {8} and list(state[0]) == [7] * 9
+    assert {calls.zs_program_begin(*array(words), *state) for words in wrong} == {8} and list(state[0]) == [7] * 10
     assert calls.zs_program_begin(*array(right), *state) == 0
 
 
 def test_a_step_of_a_forged_program_visits_at_most_1000_nodes(library):
-    calls, state, reply = ctypes.CDLL(str(library / "libzsched.so")), array([7] * 5), array([0] * 4)
+    calls, state, told = ctypes.CDLL(str(library / "libzsched.so")), array([7] * 6), [array([0])[0], array([0])[0]]
     # Each of 30 resets, whose test passes always, steps its part twice.
     program = array(program_of([17, 0, 5, 0] * 30 + [1], 2))
     assert calls.zs_program_begin(*program, *state) == 0
     moment = ctypes.c_uint64(1)
-    assert calls.zs_program_step(*program, *state, moment, moment, reply[0], None, ctypes.c_size_t(0)) == 1
-    assert reply[0][2] == 1000
+    assert calls.zs_program_step(*program, *state, moment, moment, *told) == 1
+    assert [it[0] for it in told] == [0, 1000]
+
+
+def begun(library, text):
+    """A text's program and its state, as arguments of calls, and the calls."""
+    calls, program, state, at = ctypes.CDLL(str(library / "libzsched.so")), array([0] * 64), array([0] * 64), array([0])
+    assert calls.zs_compile(text, ctypes.c_size_t(len(text)), *program, at[0]) == 0
+    assert calls.zs_program_begin(*program, *state) == 0
+    return calls, program, state
+
+
+def test_an_output_is_cut_where_its_room_ends_and_there_is_none_before_a_step(library):
+    calls, program, state = begun(library, b"(spaced(30) && elapsed)")
+    room, size = ctypes.create_string_buffer(b"----"), array([7])[0]
+    assert calls.zs_output(*program, *state, room, ctypes.c_size_t(4), size) == 2
+    assert (room.value, size[0]) == (b"----", 0)
+    for step, whole in enumerate([b"(0,0)", b"(1,1000)"]):
+        moment, words = ctypes.c_uint64(7 + 1000 * step), [array([0])[0], array([0])[0]]
+        assert calls.zs_program_step(*program, *state, moment, moment, *words) == 0
+        before = list(state[0])
+        cut_texts(lambda room, size_of: calls.zs_output(*program, *state, room, size_of, size), whole)
+        assert size[0] == len(whole) and list(state[0]) == before
 
 
 class Turn(ctypes.Structure):
     """One failed attempt, as struct zs_turn."""
-    _fields_ = [*[(name, ctypes.c_uint64) for name in ["began", "ended", "input", "least", "longest"]],
+    _fields_ = [*[(name, ctypes.c_uint64) for name in ["size", "began", "ended", "input", "least", "longest"]],
                 *[(name, ctypes.c_uint32) for name in ["percent", "draw"]]]
+
+    def __init__(self, *numbers, **named):
+        super().__init__(ctypes.sizeof(Turn), *numbers, **named)
 
 
 def planner(library, text):
     """A call that plans the next attempt of a new loop after a turn: its number and its begin."""
-    calls, program, state, at = ctypes.CDLL(str(library / "libzsched.so")), array([0] * 64), array([0] * 64), array([0])
-    assert calls.zs_compile(text, ctypes.c_size_t(len(text)), *program, at[0]) == 0
-    assert calls.zs_program_begin(*program, *state) == 0
-    return lambda turn: (calls.zs_plan(*program, *state, ctypes.byref(turn), at[0]), at[0][0])
+    calls, program, state = begun(library, text)
+    at = array([0])[0]
+    return lambda turn: (calls.zs_plan(*program, *state, ctypes.byref(turn), at), at[0])
 
 
 # Begins of spaced(30) after attempts of 5.9 ms and others, worked out by hand from the header.
@@ -223,15 +250,52 @@ def test_a_loop_makes_no_more_attempts_than_its_bounds_say_whatever_its_clock_do
     assert max(counts) == most
 
 
+DRIVER = {"size": 64, "least": 1, "has_most": 0, "most": 0, "least_percent": 100, "most_percent": 100, "asked": 0,
+          "late": 0}
+
+
+def bounds_of(library, text, size=80, **driver):
+    """The number that zs_bounds returns for 1000 steps, and the numbers of struct zs_run_bounds after its size."""
+    calls, at, bounds = ctypes.CDLL(str(library / "libzsched.so")), ctypes.c_uint64(), array([size, *[7] * 9])[0]
+    number = calls.zs_bounds(text, ctypes.c_size_t(len(text)), array((DRIVER | driver).values())[0],
+                             ctypes.c_uint64(1000), bounds, ctypes.byref(at))
+    assert bounds[0] == size and at.value == 0
+    return number, list(bounds[1:])
+
+
+@pytest.mark.parametrize("size", [0, 1, 55, 57, 63, 65, 79, 81, 2 ** 64 - 1])
+def test_a_struct_of_another_size_is_rejected_and_changes_nothing(library, size):
+    assert bounds_of(library, b"recurs(2)")[0] == 0
+    assert bounds_of(library, b"recurs(2)", size) == bounds_of(library, b"recurs(2)", **{"size": size}) == (17, [7] * 9)
+    turn, (calls, program, state) = Turn(), begun(library, b"recurs(2)")
+    turn.size, before, begin = size, list(state[0]), array([7])[0]
+    assert (calls.zs_plan(*program, *state, ctypes.byref(turn), begin), begin[0]) == (17, 0)
+    assert list(state[0]) == before
+
+
+# Bounds of (spaced(30) && recurs(2)) by hand: two waits, to the begin of an attempt that may be late, and three attempts.
+@pytest.mark.parametrize("driver, wanted", [
+    ({}, [30, 1, 60, 0, 0]), ({"has_most": 1, "most": 10}, [30, 1, 60, 1, 90]),
+    ({"has_most": 1, "most": 10, "least_percent": 50}, [30, 1, 60, 1, 90]),
+    ({"has_most": 1, "most": 10, "most_percent": 150}, [45, 1, 90, 1, 120]),
+    ({"has_most": 1, "most": 10, "asked": 100}, [100, 1, 200, 1, 230]),
+    ({"has_most": 1, "most": 10, "late": 5}, [35, 1, 70, 1, 100])])
+def test_bounds_are_those_of_the_driver(library, driver, wanted):
+    assert bounds_of(library, b"(spaced(30) && recurs(2))", **driver) == (0, [3, 3, 1, 3, *wanted])
+
+
+@pytest.mark.parametrize("driver", [{"least": 0}, {"has_most": 1}, {"has_most": 2}, {"least_percent": 101}])
+def test_a_driver_that_cannot_be_has_no_bounds(library, driver):
+    assert bounds_of(library, b"recurs(2)", **driver) == (10, [7] * 9)
+
+
 # Attempts of 30 ms and the waits between them, by hand: 6 x 30 + 5 x 10, 4 x 30 + 10 + 20 + 40.
 @pytest.mark.parametrize("text, longest_run", [
     (b"(spaced(10) && recurs(5))", 230), (b"(exponential(10) && recurs(3))", 190)])
 def test_a_loop_whose_attempts_are_in_time_ends_within_its_longest_run(library, text, longest_run):
     random.seed(0)
-    calls, at, bounds = ctypes.CDLL(str(library / "libzsched.so")), ctypes.c_uint64(), array([0] * 9)[0]
-    assert calls.zs_bounds(text, ctypes.c_size_t(len(text)), array([1, 1, 30])[0], ctypes.c_uint64(1000), bounds,
-                           ctypes.byref(at)) == 0
-    assert list(bounds[-2:]) == [1, longest_run]
+    number, bounds = bounds_of(library, text, has_most=1, most=30)
+    assert (number, bounds[-2:]) == (0, [1, longest_run])
     latest = []
     for run in range(100):
         plan, number, begin, ended = planner(library, text), 0, 0, 0

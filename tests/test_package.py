@@ -33,7 +33,7 @@ def test_functions_and_soname_are_those_of_the_library(library):
     assert {words.split()[2].partition("@")[0] for words in told.splitlines()} == {it for pair in names for it in pair}
     assert re.findall(r"SONAME +(\S+)", output_of(["objdump", "-p", library / "libzsched.so"])) == [SONAME]
     archive = output_of(["nm", "--extern-only", "--defined-only", library / "libzsched.a"])
-    for text, form in [(HEADER, r"^uint\w+ (zs_\w+)\("), (archive, r"^\w+ \w (\w+)$")]:
+    for text, form in [(HEADER, r"^(?:enum )?\w+ (zs_\w+)\("), (archive, r"^\w+ \w (\w+)$")]:
         assert sorted(re.findall(form, text, re.M)) == [name for name, _ in names]
 
 
@@ -287,7 +287,7 @@ def test_a_client_of_what_is_installed_retries_and_steps(name, root):
                                              ("(spaced(30) && recurs(2))", 503, 9, "503", [30, 30])]:
         ended, moments = client.retries(text, code, times)
         assert ended == wanted and are_kept(waits, moments)
-    assert client.says([request("program", POLICY, 7, 503, 50, 404)]) == ["0,47,6,((40,0),0) 1,0,6,((80,1),1)"]
+    assert client.says([request("program", POLICY, 7, 503, 50, 404)]) == ["0,47,((40,0),0) 1,0,((80,1),1)"]
     if name != "C++":
         assert root.purge() == []
 
