@@ -273,7 +273,7 @@ def test_a_struct_of_another_size_is_rejected_and_changes_nothing(library, size)
     assert list(state[0]) == before
 
 
-# Bounds of (spaced(30) && recurs(2)) by hand: two waits, to the begin of an attempt that may be late, and three attempts.
+# Bounds of (spaced(30) && recurs(2)) by hand: two waits, up to the late begin of an attempt, and three attempts.
 @pytest.mark.parametrize("driver, wanted", [
     ({}, [30, 1, 60, 0, 0]), ({"has_most": 1, "most": 10}, [30, 1, 60, 1, 90]),
     ({"has_most": 1, "most": 10, "least_percent": 50}, [30, 1, 60, 1, 90]),
