@@ -33,7 +33,7 @@ def test_histories_have_all_faults_of_texts_and_many_steps():
     assert sum(bool(it.steps) and not it.is_flat for it in histories()) > 100
 
 
-# A text without a program has no step, a part that is reset begins anew, and a fault leaves the steps before it.
+# No step has no result, a step visits a part twice if that is reset, and a fault leaves the steps before it.
 @pytest.mark.parametrize("command, text, numbers, wanted", rows("client_lines.jsonl"))
 def test_a_request_has_its_line(client, command, text, numbers, wanted):
     assert client("C").says([request(command, text, *numbers)]) == [wanted]
