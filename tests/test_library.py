@@ -273,17 +273,6 @@ def test_a_struct_of_another_size_is_rejected_and_changes_nothing(library, size)
     assert list(state[0]) == before
 
 
-# Bounds of (spaced(30) && recurs(2)) by hand: two waits, up to the late begin of an attempt, and three attempts.
-@pytest.mark.parametrize("driver, wanted", [
-    ({}, [30, 1, 60, 0, 0]), ({"has_most": 1, "most": 10}, [30, 1, 60, 1, 90]),
-    ({"has_most": 1, "most": 10, "least_percent": 50}, [30, 1, 60, 1, 90]),
-    ({"has_most": 1, "most": 10, "most_percent": 150}, [45, 1, 90, 1, 120]),
-    ({"has_most": 1, "most": 10, "asked": 100}, [100, 1, 200, 1, 230]),
-    ({"has_most": 1, "most": 10, "late": 5}, [35, 1, 70, 1, 100])])
-def test_bounds_are_those_of_the_driver(library, driver, wanted):
-    assert bounds_of(library, b"(spaced(30) && recurs(2))", **driver) == (0, [3, 3, 1, 3, *wanted])
-
-
 @pytest.mark.parametrize("driver", [{"least": 0}, {"has_most": 1}, {"has_most": 2}, {"least_percent": 101}])
 def test_a_driver_that_cannot_be_has_no_bounds(library, driver):
     assert bounds_of(library, b"recurs(2)", **driver) == (10, [7] * 9)
