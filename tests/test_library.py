@@ -232,24 +232,6 @@ def test_a_turn_plans_what_the_header_says(library, turn, wanted):
     assert found == ((1, 0) if wanted is None else (0, wanted))
 
 
-# What zs_bounds says for attempts of any time.
-@pytest.mark.parametrize("text, most", [(b"(spaced(10) && elapsed).whileOutput(_2 < 500)", 47),
-                                        (b"elapsed.whileOutput(< 200)", 201), (b"(fixed(7) && recurs(20))", 21)])
-def test_a_loop_makes_no_more_attempts_than_its_bounds_say_whatever_its_clock_does(library, text, most):
-    random.seed(0)
-    counts = []
-    for _ in range(200):
-        plan, farthest = planner(library, text), 10 ** random.randrange(5, 12)
-        number = attempts = 0
-        while number == 0 and attempts <= most:
-            turn, attempts = Turn(random.randrange(farthest), random.randrange(farthest)), attempts + 1
-            number, begin = plan(turn)
-            assert begin == 0 if number else begin >= max(turn.began, turn.ended)
-        assert number == 1 and attempts <= most
-        counts.append(attempts)
-    assert max(counts) == most
-
-
 DRIVER = {"size": 64, "least": 1, "has_most": 0, "most": 0, "least_percent": 100, "most_percent": 100, "asked": 0,
           "late": 0}
 
@@ -261,6 +243,30 @@ def bounds_of(library, text, size=80, **driver):
                              ctypes.c_uint64(1000), bounds, ctypes.byref(at))
     assert bounds[0] == size and at.value == 0
     return number, list(bounds[1:])
+
+
+# Bounds by hand: a step each 11 ms, each 6 and each 1, until 500 or 200 ms have passed.
+@pytest.mark.parametrize("text, percent, most", [
+    *[(b"(spaced(10) && elapsed).whileOutput(_2 < 500)", *it) for it in [(0, 47), (50, 85), (100, 501)]],
+    (b"elapsed.whileOutput(< 200)", 0, 201), (b"(fixed(7) && recurs(20))", 30, 21)])
+def test_a_loop_makes_no_more_attempts_than_its_bounds_say_whatever_its_clock_does(library, text, percent, most):
+    driver = {"least_percent": 100 - percent, "asked": 60_000, "late": 2 ** 64 - 1}
+    assert bounds_of(library, text, **driver)[1][2:4] == [1, most]
+    random.seed(0)
+    counts = []
+    for run in range(200):
+        plan, farthest, is_late = planner(library, text), 10 ** random.randrange(5, 12), run % 2
+        number = attempts = 0
+        while number == 0 and attempts <= most:
+            turn, attempts = Turn(random.randrange(farthest), random.randrange(farthest), longest=60_000), attempts + 1
+            turn.percent, turn.draw, turn.least = percent, 2 ** 32 - 1, 0
+            if is_late:
+                turn.draw, turn.least = random.getrandbits(32), random.choice([0, 1, 30, 2 ** 64 - 1])
+            number, begin = plan(turn)
+            assert begin == 0 if number else begin >= max(turn.began, turn.ended)
+        assert number == 1 and attempts <= most
+        counts.append(attempts)
+    assert max(counts) == most
 
 
 @pytest.mark.parametrize("size", [0, 1, 55, 57, 63, 65, 79, 81, 2 ** 64 - 1])
