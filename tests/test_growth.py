@@ -94,8 +94,8 @@ def cost(tmp_path):
         words = ["valgrind", "--tool=dhat", f"--dhat-out-file={tmp_path / 'dhat'}", program]
         ended = subprocess.run(words, input=text, capture_output=True, text=True, timeout=PATIENCE, check=False)
         assert ended.returncode == status, ended.stderr[-300:]
-        # The line of a request to the library begins with 0 or 1.
-        assert "client" not in str(program) or ended.stdout[:2] in ["", "0,", "1,", "0 "], ended.stdout[:40]
+        # A request to the library prints empty lines for steps, or a line that begins with 0.
+        assert "client" not in str(program) or ended.stdout[:2] in ["", "\n\n", "0 "], ended.stdout[:40]
         allocations, held = (int(form.search(ended.stderr)[1].replace(",", "")) for form in [TOTAL, MOST_AT_ONCE])
         return Cost(int(INSTRUCTIONS.search((tmp_path / "dhat").read_text())[1]), held, allocations)
     return measure
