@@ -3,7 +3,6 @@
  *     cc example.c -o example $(pkg-config --cflags --libs zsched) -lpthread
  *
  * The loop is in retry.h. */
-#define _POSIX_C_SOURCE 200809L
 #include "retry.h"
 
 #include <arpa/inet.h>
@@ -63,27 +62,31 @@ static uint64_t attempt(void *data)
 /* Whether each call ends within 2 s for every input, if an attempt takes at most 200 ms. */
 static int ends_in_time(void)
 {
-    const zs_durations attempts = {.least = 1, .has_most = 1, .most = 200};
-    struct zs_bounds bounds;
+    zs_driver driver = ZS_DRIVER;
+    zs_run_bounds bounds = ZS_RUN_BOUNDS;
     uint64_t at;
-    uint32_t number = zs_bounds((const uint8_t *)POLICY, strlen(POLICY), &attempts, 1000, &bounds, &at);
-    return number == ZS_NEXT && bounds.has_longest_run && bounds.longest_run <= 2000;
+    driver.has_most = 1;
+    driver.most_ms = 200;
+    return zs_bounds(POLICY, strlen(POLICY), &driver, 1000, &bounds, &at) == ZS_OK && bounds.has_longest_run &&
+           bounds.longest_run_ms <= 2000;
 }
 
 int main(void)
 {
+    static retry_policy policy;
     struct call call = {"", 0};
-    struct timespec begun;
     pthread_t server;
     socklen_t length = sizeof address;
+    uint64_t at, begun;
     int listening = socket(AF_INET, SOCK_STREAM, 0);
     address.sin_addr.s_addr = htonl(INADDR_LOOPBACK);
-    if (!ends_in_time() || listening < 0 || bind(listening, (struct sockaddr *)&address, sizeof address) ||
-        listen(listening, 8) || getsockname(listening, (struct sockaddr *)&address, &length) ||
+    if (retry_compile(&policy, POLICY, &at) || !ends_in_time() || listening < 0 ||
+        bind(listening, (struct sockaddr *)&address, sizeof address) || listen(listening, 8) ||
+        getsockname(listening, (struct sockaddr *)&address, &length) ||
         pthread_create(&server, NULL, serve, &listening))
         return 2;
-    clock_gettime(CLOCK_MONOTONIC, &begun);
-    if (retry(POLICY, attempt, &call) || retry_passed(&begun) < 140)
+    begun = retry_passed(0);
+    if (retry(&policy, NULL, attempt, &call).end != RETRY_DONE || retry_passed(begun) < 140000000)
         return 1;
     pthread_join(server, NULL);
     printf("%s after %d attempts\n", call.text, call.attempts);
