@@ -10,12 +10,12 @@ SCHEDULES = 2000
 NODES = [1, 1, 2, 2, 3, 3, 4, 5, 6, 7, 8, 10, 12, 16, 20, 30, 60]
 NUMBERS = {"no term": 11, "too big": 12, "number too large": 13, "factor is 0": 14, "no kind": 15, "window is 0": 16}
 KEEPS_LIST = "6,0,a schedule with collectAll has no state of fixed size"
-FALLS = "the moment is below that of the step before it"
+FALLS = "3,0,the moment is below that of the step before it"
 
 
 class History:
-    """A text and its steps. `fault` is the last word of its line, if there is one, and `steps` the words before it,
-    each with a '*' for the visits, which are at least 1 and at most `weight`."""
+    """A text and its steps. `fault` is the last word of its line, if there is one, and `steps` the words before it.
+    Each step visits 1 to `weight` nodes."""
 
     def __init__(self, text, pairs=()):
         self.text, self.pairs, self.steps, self.weight = text, list(pairs), [], 0
@@ -40,10 +40,10 @@ class History:
         known = {}
         for end, (moment, _) in enumerate(self.pairs, 1):
             if end > 1 and moment < self.pairs[end - 2][0]:
-                self.fault = f"3,{end - 1},{FALLS}"
+                self.fault = FALLS
                 return
             out, following = reference.step(schedule, reference.History(self.pairs, known, 0, end))
-            self.steps.append(f"{int(following is None)},{following or 0},*,{reference.out_text(out)}")
+            self.steps.append(f"{int(following is None)},{following or 0},{reference.out_text(out)}")
 
     @property
     def is_flat(self):
@@ -55,17 +55,11 @@ class History:
 
     def differs(self, line, command):
         """What is wrong with a client's line for the request, or None."""
-        steps, fault = self.steps, self.fault
-        if command != "list" and self.weight:
-            if b"collectAll" in self.text:
-                steps, fault = [], KEEPS_LIST
-            elif fault:
-                fault = f"3,0,{FALLS}"
+        steps, fault = ([], KEEPS_LIST) if self.weight and b"collectAll" in self.text else (self.steps, self.fault)
         words = line.split(" ", len(steps))
-        visits = [int(word.split(",", 3)[2]) for word in words[:len(steps)]]
-        found = [",".join([*word.split(",", 3)[:2], "*", word.split(",", 3)[3]]) for word in words[:len(steps)]]
-        found += [word for word in words[len(steps):] if word]
-        if found == [*steps, *[fault] * bool(fault)] and all(0 < number <= self.weight for number in visits):
+        if command == "visits":
+            words = [step for it, step in zip(words, steps) if 0 < int(it) <= self.weight] + words[len(steps):]
+        if [it for it in words if it] == [*steps, *[fault] * bool(fault)]:
             return None
         return f"{self.request(command)}: {line}"
 

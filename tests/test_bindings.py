@@ -1,7 +1,8 @@
-"""The bindings: one client in each language (tests/clients/) steps the same schedules, fails with the same faults and
-retries by the same policies. What only one binding has is tested by a program in its language
-(tests/clients/only_in_*, inside_go_test.go, OnlyInJava.java; tests/test_python.py). The example of each binding really
-waits."""
+"""The bindings: one client in each language (tests/clients/) steps the same schedules, plans the same attempts, fails
+with the same faults and retries by the same policies, in the same order. What only one binding has is tested by a
+program in its language (tests/clients/only_in_*, inside_go_test.go, OnlyInJava.java; tests/test_python.py). The example
+of each binding really waits."""
+import itertools
 import pathlib
 import re
 import shutil
@@ -12,14 +13,13 @@ import pytest
 
 import reference
 from histories import FALLS, KEEPS_LIST, History, histories, judge
-from languages import (BINDINGS, CLEAN, CLIENTS, JNA, LANGUAGES, STRICT, WATCHED, are_kept, built_library, client,
+from languages import (BINDINGS, CLEAN, CLIENTS, CPP, JNA, LANGUAGES, STRICT, WATCHED, are_kept, built_library, client,
                        go_variables, need, node, ran, request)
 from support import TOP, rows
 from test_library import BOUNDS
 
 # Languages whose texts are bytes, UTF-8 or not.
 BYTES = ["C", "C watched", "C++", "Go", "Node"]
-BOUND = ["Python", "Go", "Node", "Java", "Rust"]
 # Debian's packages put the sources of crates here.
 CRATES = pathlib.Path("/usr/share/cargo/registry")
 FAULTS = {text.encode(): fault for text, fault in rows("faulty_texts.jsonl")}
@@ -32,10 +32,20 @@ LIMITED = {"limited": ["Go", "Node", "Java", "Rust"], "limited_later": ["Python"
 GOOD = {"good": ["Python", "Go", "Node", "Java", "Rust"], "good_later": ["Python"]}
 # Policies of which each attempt fails at once.
 PROMISED = rows("promised.jsonl")
+# A schedule; a jitter in percent, a least wait and the longest one in milliseconds; turns, each with the nanoseconds at
+# which an attempt began and ended, its input and a draw; the line of the plans; how it was worked out by hand.
+TURNS = rows("turns.jsonl")
+# A policy, of which each attempt fails at once; the line of its attempts and its last begin; how it was worked out.
+RESTARTS = rows("restarts.jsonl")
+# A policy, what happens in a retry by it, and what each language prints of it: null if it has no such thing.
+ORDERS = rows("orders.jsonl")
+# A schedule; how many steps are examined, the least and most milliseconds of an attempt, the jitter in percent, the
+# longest least wait and the lateness in milliseconds; the numbers of zs_run_bounds; how they were worked out.
+DRIVERS = rows("drivers.jsonl")
+ANY_LATENESS = 1, 2 ** 64 - 1, 0, 0, 2 ** 64 - 1
 # A policy, the code of all failures; a jitter in percent, a least wait in milliseconds, the code that isn't retried,
 # 1 for a shared budget, and the longest least wait, an hour if it isn't there; how many attempts there are at least and
-# most, and the least and most milliseconds of each wait. Steps are made at the moments that are planned without jitter,
-# so it makes no more attempts.
+# most, and the least and most milliseconds of each wait. Jitter shortens waits, so elapsed passes more attempts.
 OPTIONS = rows("retry_options.jsonl")
 MANY, TIMES, BYTES_A_STEP = 1_000_000, 1.5, 4
 
@@ -45,7 +55,13 @@ def named(*names):
 
 
 def ways(name):
-    return ["list", "program"] if name.startswith("C") else ["list", "program", "stored"]
+    return ["program", "visits"] if name.startswith("C") else ["program", "stored"]
+
+
+def says_bounds(client, name, *asked):
+    """The lines of some requests, of which the clients in C print a fault as numbers too."""
+    lines = client(name).says(request("bounds", *it) for it in asked)
+    return [re.sub("^0 (.*) 0$", r"\1", line) for line in lines] if name.startswith("C") else lines
 
 
 @pytest.mark.parametrize("name", named())
@@ -62,10 +78,10 @@ def test_faults_have_their_number_place_and_text(client, name):
     assert [it.fault for it in chosen] == list(FAULTS.values())
     for command in ways(name):
         judge(client(name), chosen, command)
-    assert client(name).says([request("program", "forever.collectAll", 1, 0),
-                              request("program", "recurs(1)", 5, 0, 4, 0),
-                              request("list", "recurs(2)", 5, 0, 5, 0, 4, 0)]) == [
-        KEEPS_LIST, f"0,5,1,0 3,0,{FALLS}", f"0,5,1,0 0,5,1,1 3,2,{FALLS}"]
+    asked = [("recurs(1)", 5, 0, 4, 0), ("forever.collectAll", 1, 0), ("(recurs(1) && recurs(2).collectAll)", 1, 0)]
+    for command in ways(name):
+        assert client(name).says(request(command, *it) for it in asked) == [
+            f"{1 if command == 'visits' else '0,5,0'} {FALLS}", KEEPS_LIST, KEEPS_LIST]
 
 
 @pytest.mark.parametrize("name", named("Go", "Node", "Rust", "Java"))
@@ -83,7 +99,7 @@ def test_outputs_of_any_length_are_whole(client, name):
     long = History(f"({wide} && linear(9))".encode(), [(3, 0), (5, 0), (8, 0)])
     assert len(long.steps[0]) > 256
     for command in ways(name):
-        judge(client(name), [long, History(b"forever.collectAll", [(moment, 0) for moment in range(200)])], command)
+        judge(client(name), [long], command)
 
 
 @pytest.mark.parametrize("name", named())
@@ -96,11 +112,30 @@ def test_the_library_has_the_version_of_this_tree(client, name):
 @pytest.mark.parametrize("name", named())
 def test_a_retry_waits_as_its_policy_says(client, name, text, code, times, wanted, waits):
     ended, moments = client(name).retries(text, code, times)
-    if "collectAll" in text and name.startswith("C"):
-        # The loop in C steps a program.
-        assert (ended, moments) == (str(2 ** 64 - 1), [])
-    else:
-        assert ended == wanted and are_kept(waits, moments)
+    assert ended == wanted and are_kept(waits, moments)
+
+
+@pytest.mark.parametrize("name", named())
+def test_the_next_attempt_begins_as_worked_out_by_hand(client, name):
+    asked = [request("plan", text, *given, *itertools.chain(*turns)) for text, given, turns, *_ in TURNS]
+    assert client(name).says(asked) == [line for _, _, _, line, _ in TURNS]
+
+
+@pytest.mark.parametrize("name", named())
+def test_a_loop_over_restarts_keeps_its_bound_though_its_clock_is_set_back(client, name):
+    found = client(name).says(request("restarted", text, 7, 3000, 1000) for text, *_ in RESTARTS)
+    assert found == [line for _, line, _ in RESTARTS]
+    bounds = client("C").says(request("bounds", text, 1000, *ANY_LATENESS) for text, *_ in RESTARTS)
+    for line, promised in zip(found, bounds, strict=True):
+        _, _, least, has_most, most, *_ = map(int, promised.split())
+        assert has_most and least <= int(line.split()[0]) <= most
+
+
+@pytest.mark.parametrize("name", named())
+def test_a_retry_calls_its_hooks_in_order(client, name):
+    wanted = {(text, what): lines[name.split()[0].rstrip("+")] for text, what, lines in ORDERS}
+    wanted = {asked: line for asked, line in wanted.items() if line}
+    assert client(name).says(request("order", *asked) for asked in wanted) == list(wanted.values())
 
 
 def forms(names):
@@ -154,7 +189,7 @@ def test_what_fails_at_once_is_retried_within_the_bounds_of_its_policy(client, n
 
 
 @pytest.mark.parametrize("text, code, options, least, most, shortest, longest", OPTIONS)
-@pytest.mark.parametrize("name", named(*BOUND))
+@pytest.mark.parametrize("name", named())
 def test_options_of_a_retry(client, name, text, code, options, least, most, shortest, longest):
     line, = client(name).says([request("retry", text, code, 99, *options)])
     ended, *words = line.split()
@@ -167,7 +202,7 @@ def test_options_of_a_retry(client, name, text, code, options, least, most, shor
     assert not options[0] or sum(wait for _, wait in hooked) < 0.9 * longest * len(hooked) or shortest == longest
 
 
-@pytest.mark.parametrize("name", named(*BOUND))
+@pytest.mark.parametrize("name", named())
 def test_calls_share_a_budget(client, name):
     """Of 10 tokens: a failed attempt takes one, another adds a half, and more than 5 have to be there for a retry."""
     lines = client(name).says(request("retry", "recurs(9)", 7, times, 0, 0, 0, 1)
@@ -175,13 +210,17 @@ def test_calls_share_a_budget(client, name):
     assert [sum(":" not in it for it in line.split()) - 1 for line in lines] == [5, 1, 1, 1, 1, 1, 1, 2]
 
 
-@pytest.mark.parametrize("name", named(*BOUND))
+@pytest.mark.parametrize("name", named())
 def test_bounds_are_those_that_were_worked_out_by_hand(client, name):
     for place, more in enumerate([(), (1, 5000)]):
-        assert client(name).says(request("bounds", text, 1000, *more) for text in BOUNDS) == [it[place]
-                                                                                              for it in BOUNDS.values()]
-    assert client(name).says([request("bounds", "recurs(1)", 9, 6, 5)]) == ["10,0,no attempt takes these durations"]
-    assert client(name).says(request("bounds", text.decode(), 9) for text in FAULTS) == list(FAULTS.values())
+        found = says_bounds(client, name, *((text, 1000, *more) for text in BOUNDS))
+        assert found == [it[place] for it in BOUNDS.values()]
+    assert says_bounds(client, name, *((text, *given) for text, given, *_ in DRIVERS)) == [it[2] for it in DRIVERS]
+    faults = says_bounds(client, name, ("recurs(1)", 9, 6, 5), *((text.decode(), 9) for text in FAULTS))
+    wanted = ["10,0,no driver does this", *FAULTS.values()]
+    if name.startswith("C"):
+        wanted = [f"{number} {'0 ' * 9}{at}" for number, at, _ in (it.split(",") for it in wanted)]
+    assert faults == wanted
 
 
 @pytest.mark.full
@@ -212,12 +251,31 @@ def test_a_million_steps_take_flat_time_and_memory(client, name):
 READY = "ready after 4 attempts\n"
 
 
-@pytest.mark.parametrize("words", [["-std=c99"], ["-std=gnu17"], ["-std=gnu11", *WATCHED]],
+@pytest.mark.parametrize("words", [["cc", "-std=c99"], ["cc", "-std=gnu17"], ["cc", "-std=gnu11", *WATCHED]],
                          ids=["c99", "gnu17", "watched"])
 def test_the_example_in_c_waits_for_its_server(library, tmp_path, words):
-    ran(["cc", *STRICT, *words, *built_library(library).flags, "-o", "example", BINDINGS / "c" / "example.c",
-         library / "libzsched.a", "-lpthread"], tmp_path)
+    compiled = [*words, *STRICT, *built_library(library).flags[:2]]
+    ran([*compiled, "-o", "example", BINDINGS / "c" / "example.c", library / "libzsched.a", "-lpthread"], tmp_path)
     assert ran(["./example"], tmp_path) == READY
+
+
+@pytest.mark.parametrize("words", [["cc", "-std=c99"], ["cc", "-std=gnu17"], ["cc", "-std=gnu11", *WATCHED], CPP],
+                         ids=["c99", "gnu17", "watched", "c++17"])
+def test_the_loop_in_c_is_cancelled_draws_and_counts_in_a_program_of_two_files(library, tmp_path, words):
+    need(words[0])
+    (tmp_path / "second.c").write_text('#include "retry.h"\nint second(void);\nint second(void) { return 0; }\n')
+    ran([*words, *STRICT, "-I", BINDINGS / "c", *built_library(library).flags[:2], "-o", "only", "second.c",
+         CLIENTS / "only_in_c.c", "-x", "none", library / "libzsched.a", "-lpthread"], tmp_path)
+    assert ran(["./only"], tmp_path) == ""
+
+
+def test_the_loop_in_c_says_which_macro_it_needs_where_it_is_included_late(library, tmp_path):
+    (tmp_path / "late.c").write_text('#include <stdio.h>\n#include "retry.h"\n')
+    words = ["cc", "-fsyntax-only", *STRICT, "-I", BINDINGS / "c", *built_library(library).flags[:2], "late.c"]
+    ended = subprocess.run([*words, "-std=c99"], cwd=tmp_path, capture_output=True, text=True, check=False)
+    assert ended.returncode == 1 and "define _POSIX_C_SOURCE as 200809L" in ended.stderr
+    ran([*words, "-std=c99", "-D_POSIX_C_SOURCE=200809L"], tmp_path)
+    ran([*words, "-std=gnu99"], tmp_path)
 
 
 def test_the_example_in_go_waits_for_its_server_and_its_tests_pass(library, tmp_path):

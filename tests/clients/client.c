@@ -1,30 +1,41 @@
 /* The client of the library in C and C++. It reads requests, and prints a line for each; the clients of the other languages
  * read and print the same. A request is a line of words, of which TEXT is a '.' and a schedule's text in hexadecimal digits.
  *
- *   list TEXT MOMENT INPUT ..     steps the schedule by the list of its steps (zs_answer)
- *   program TEXT MOMENT INPUT ..  steps a program
- *   stored TEXT MOMENT INPUT ..   the same, each step by a new program with the stored state (not in C)
+ *   program TEXT MOMENT INPUT ..  steps a program: a word NUMBER,NEXT,OUTPUT for each step
+ *   visits TEXT MOMENT INPUT ..   the same, but prints how many nodes each step visited (C alone)
+ *   stored TEXT MOMENT INPUT ..   as program, each step by a new schedule with the stored state (not in C)
  *   moved TEXT                    stores a state of the text's first line, for a program of its second line (not in C)
+ *   plan TEXT PERCENT LEAST LONGEST [BEGAN ENDED INPUT DRAW]..
+ *                                 plans after turns of one schedule, each with a jitter of PERCENT and a least wait of LEAST
+ *                                 ms, of which LONGEST ms are honoured: a word 0,BEGIN or 1,0 for each
+ *   restarted TEXT CODE BACK MOST plans a loop whose attempts fail at once with CODE, at most MOST, each in a new schedule with
+ *                                 the stored state. The loop's clock is set back by BACK ms before the third attempt. Prints
+ *                                 the number of attempts, and the last begin that was planned, in ns
  *   retry TEXT CODE TIMES [JITTER LEAST STOP BUDGET [MOST]]
  *                                 retries an effect that fails at once with CODE, the first TIMES times; JITTER in percent and
  *                                 each wait of LEAST ms at least, of which MOST ms are honoured, but not if CODE is STOP; all
- *                                 requests whose BUDGET is 1 share one of 10 tokens and the ratio 0.5 (these not in C)
+ *                                 requests whose BUDGET is 1 share one of 10 tokens and the ratio 0.5
  *   later, loop, later_loop       as retry, but asynchronously (Python, Java, Rust), by a loop, by both (Python)
+ *   order TEXT WHAT               retries an effect that fails with the code 7, with a budget of 10 tokens and the ratio 0.5.
+ *                                 Prints what is called, in order: attempt, input (the hook for it), least (the hook of the
+ *                                 least wait), sleep (the hook before one), end (the hook of a call that gives up); then the
+ *                                 code, or 'cancelled', and the tokens that remain. WHAT is plain; unretried (the error isn't
+ *                                 retried); cancelled (in the first attempt); input or least (that hook fails); or broke (the
+ *                                 budget has 1 token, and the ratio 0)
  *   limited, limited_later, limited_loop, limited_later_loop TEXT CODE TIMES MOST
- *                                 as these, but the first TIMES attempts take 5 s, or end with CODE some 30 ms after the
- *                                 limit of MOST ms that they get; a coroutine or future is cut off by it (not in C)
+ *                                 as retry, later and so on, but the first TIMES attempts take 5 s, or end with CODE some 30 ms
+ *                                 after the limit of MOST ms that they get; a coroutine or future is cut off by it (not in C)
  *   good TEXT COUNT               makes COUNT calls that don't fail, and prints the nanoseconds of one (not in C)
  *   many TEXT COUNT               steps a program COUNT times, each time when it may; prints a line after each tenth
- *   bounds TEXT STEPS [LEAST MOST]
- *                                 zs_bounds: all nine of struct zs_bounds; in C between the number and the place
- *   answer, run                   as list and program, but only the last step's result is printed (C alone)
+ *   bounds TEXT STEPS [LEAST MOST [JITTER ASKED LATE]]
+ *                                 zs_bounds: all nine of zs_run_bounds; in C between the number and the place. JITTER is in
+ *                                 percent
  *   forged TEXT COUNT             steps COUNT programs with wrong words, and prints how many steps had a result (C alone)
  *   version TEXT                  the version of the library
  *
- * The line of steps has a word NUMBER,NEXT,VISITS,OUTPUT for each; a fault ends it: NUMBER,AT,WORDS. The line of a retry has
- * the code at which it gave up, or 'done', and the microseconds at which each attempt began; with more numbers also
- * NUMBER:MILLISECONDS for each call of its hook before a sleep. That of a limited one also has the microseconds at which each
- * attempt ended, after those at which it began.
+ * A fault ends a line: NUMBER,AT,WORDS. The line of a retry has the code at which it gave up, or 'done', and the microseconds
+ * at which each attempt began; with more numbers also NUMBER:MILLISECONDS for each call of its hook before a sleep. That of a
+ * limited one also has the microseconds at which each attempt ended, after those at which it began.
  *
  * client refuse   prints how many allocations each request makes, after it has made each of them fail
  * client threads  runs all requests on four threads at once too, with as much stack as zsched.h says
@@ -48,18 +59,18 @@
 #define LENGTH(words, size) ((size) * sizeof *(words))
 
 typedef struct request {
-    char *command;
-    uint8_t *text;
+    char *command, *text, *what;
     size_t text_len;
     uint64_t *numbers;
     size_t count;
-    char *answer;
+    char *line;
 } request;
 
-/* A schedule that is stepped by its program and state, or by its list if it has no program. */
+/* The program and the state of a request's schedule. */
 typedef struct schedule {
     const request *of;
-    uint64_t *program, *state, size, state_size;
+    uint64_t *program, *state;
+    size_t size, state_size;
 } schedule;
 
 static request *requests;
@@ -103,7 +114,7 @@ void __wrap_free(void *place)
 static void hold(int is_well, const request *it, const char *what)
 {
     if (!is_well)
-        printf("%s %.*s: it doesn't hold that %s\n", it->command, (int)it->text_len, (const char *)it->text, what);
+        printf("%s %.*s: it doesn't hold that %s\n", it->command, (int)it->text_len, it->text, what);
     if (!is_well)
         exit(1);
 }
@@ -136,40 +147,52 @@ static int is_untouched(const void *bytes, size_t size)
 
 static void say_fault(FILE *said, uint32_t number, uint64_t at)
 {
-    uint8_t text[80];
-    fprintf(said, " %u,%lu,%.*s", number, at, (int)zs_fault_text(number, at, text, sizeof text), (const char *)text);
+    char text[ZS_TEXT_MOST];
+    hold(zs_strerror(number, at, text, sizeof text) == strlen(text), requests, "the text of a fault ends with a 0");
+    fprintf(said, " %u,%lu,%s", number, at, text);
 }
 
-static uint32_t last_step(const schedule *it, uint64_t size, uint64_t state_size)
+/* A step, a plan and an output over words that are too few or wrong: each fails with the same number. */
+static enum zs_status deny(const schedule *it, size_t size, size_t state_size)
 {
-    zs_reply reply;
-    return zs_program_step(it->program, size, it->state, state_size, UINT64_MAX, UINT64_MAX, &reply, NULL, 0);
+    zs_turn turn = ZS_TURN;
+    uint64_t next, visits, begin;
+    size_t length;
+    enum zs_status number = zs_program_step(it->program, size, it->state, state_size, UINT64_MAX, 7, &next, &visits);
+    hold((next | visits) == 0 && zs_plan(it->program, size, it->state, state_size, &turn, &begin) == number && begin == 0 &&
+             zs_output(it->program, size, it->state, state_size, NULL, 0, &length) == number && length == 0,
+         it->of, "wrong words are rejected by each call");
+    return number;
 }
 
-/* Tests what zsched.h says of words that are too few, that were changed or that are another program's. */
+/* Tests what zsched.h says of words that are too few, that were changed or that are another program's, and of a turn. */
 static void test_words(const schedule *it)
 {
-    uint64_t at, size = it->size, state_size = it->state_size;
-    OWN uint64_t *few = (uint64_t *)block(NULL, LENGTH(few, size - 1));
+    size_t size = it->size, state_size = it->state_size, length;
+    OWN uint64_t *few = (uint64_t *)block(NULL, LENGTH(few, size - 1)), *at = (uint64_t *)block(NULL, sizeof *at);
     OWN uint64_t *before = (uint64_t *)block(it->state, LENGTH(before, state_size));
-    int is_well = zs_compile(it->of->text, it->of->text_len, few, size - 1, &at) == ZS_NO_ROOM && at == 0 &&
-                  is_untouched(few, LENGTH(few, size - 1)) && last_step(it, size, state_size - 1) == ZS_NO_ROOM &&
-                  zs_program_begin(it->program, size, it->state, state_size - 1) == ZS_NO_ROOM;
+    zs_turn turn = ZS_TURN;
+    int is_well = zs_compile(it->of->text, it->of->text_len, few, size - 1, at) == ZS_NO_ROOM && *at == 0 &&
+                  is_untouched(few, LENGTH(few, size - 1)) && deny(it, size, state_size - 1) == ZS_NO_ROOM &&
+                  zs_program_begin(it->program, size, it->state, state_size - 1) == ZS_NO_ROOM &&
+                  zs_output(it->program, size, it->state, state_size, NULL, 0, &length) == ZS_NO_STEP && length == 0;
+    for (turn.size = 0; turn.size < 2 * sizeof turn; turn.size += sizeof turn - 1)
+        is_well &= zs_plan(few, 0, it->state, state_size, &turn, at) == ZS_OTHER_SIZE && *at == 0;
     for (size_t i = 0; i < size; i++)
         for (uint64_t byte = 1 + i % 255; byte; byte <<= 8) {
             it->program[i] ^= byte;
             is_well &= zs_program_begin(it->program, size, it->state, state_size) == ZS_NO_PROGRAM &&
-                       last_step(it, size, state_size) == ZS_NO_PROGRAM;
+                       deny(it, size, state_size) == ZS_NO_PROGRAM;
             it->program[i] ^= byte;
         }
     memset(few, 0, LENGTH(few, size - 1));
     for (size_t i = 0; i < 2; i++, few[0] = it->program[0])
         is_well &= zs_program_begin(few, size - 1, it->state, state_size) == ZS_NO_PROGRAM;
     for (size_t short_size = 0; short_size < size; short_size += 1 + short_size / 4)
-        is_well &= last_step(it, short_size, state_size) == ZS_NO_PROGRAM;
+        is_well &= deny(it, short_size, state_size) == ZS_NO_PROGRAM;
     for (uint64_t change = 1; change; change <<= 21) {
         it->state[0] ^= change;
-        is_well &= last_step(it, size, state_size) == ZS_OTHER_STATE;
+        is_well &= deny(it, size, state_size) == ZS_OTHER_STATE;
         it->state[0] ^= change;
     }
     hold(is_well && memcmp(it->state, before, LENGTH(before, state_size)) == 0, it->of, "wrong words are rejected");
@@ -179,15 +202,18 @@ static void test_words(const schedule *it)
 static void test_odd_states(const schedule *it)
 {
     static const uint64_t odd[] = {0, 1, 2, 1ull << 63, UINT64_MAX};
-    uint64_t size = it->state_size;
+    size_t size = it->state_size, length;
     OWN uint64_t *words = (uint64_t *)block(NULL, LENGTH(words, size + 2));
-    schedule changed = {it->of, it->program, words, it->size, size};
+    OWN char *out = (char *)block(NULL, 9);
+    uint64_t next, visits;
     for (size_t kind = 0; kind < 5; kind++) {
         for (size_t i = 0; i < size; i++)
             words[i] = kind == 2 ? i * 0x9E3779B97F4A7C15 : odd[kind];
         words[0] = it->state[0];
-        hold(last_step(&changed, it->size, size + 2) <= ZS_DONE && is_untouched(words + size, LENGTH(words, 2)), it->of,
-             "any words may be stepped");
+        enum zs_status told = zs_output(it->program, it->size, words, size + 2, out, 9, &length);
+        enum zs_status number = zs_program_step(it->program, it->size, words, size + 2, UINT64_MAX, 7, &next, &visits);
+        hold(number <= ZS_DONE && is_untouched(words + size, LENGTH(words, 2)), it->of, "any words may be stepped");
+        hold(told == ZS_OK || (told == ZS_NO_STEP && length == 0), it->of, "any words have an output");
     }
 }
 
@@ -211,42 +237,44 @@ static void forge(uint64_t *program, uint64_t size, uint64_t *seed)
 }
 
 /* Plans after a turn of any numbers. */
-static void turn_forged(const schedule *it, const uint64_t *program, uint64_t size, uint64_t *state, uint64_t state_size,
-                        uint64_t *seed)
+static void turn_forged(const schedule *it, const uint64_t *program, uint64_t *state, size_t state_size, uint64_t *seed)
 {
     OWN uint64_t *begin = (uint64_t *)block(NULL, sizeof *begin);
     OWN zs_turn *turn = (zs_turn *)block(NULL, sizeof *turn);
     uint64_t *words = (uint64_t *)turn, last = state[1], planned = state[2];
-    for (int i = 0; i < 6; i++)
+    turn->size = sizeof *turn;
+    for (int i = 1; i < 7; i++)
         words[i] = draw(seed) >> draw(seed) % 64;
-    uint32_t number = zs_plan(program, size, state, state_size, turn, begin);
+    enum zs_status number = zs_plan(program, it->size, state, state_size, turn, begin);
     if (number == ZS_FALLS)
         hold(*begin == 0 && state[1] == last && state[2] == planned, it->of, "a turn fails, and changes nothing");
     else
-        hold(number <= ZS_DONE && (number ? *begin == 0 && state[2] == planned
-                                          : *begin >= turn->began && *begin >= turn->ended && state[2] == *begin / 1000000) &&
+        hold(number <= ZS_DONE &&
+                 (number ? *begin == 0 && state[2] == planned
+                         : *begin >= turn->began_ns && *begin >= turn->ended_ns && state[2] == *begin / 1000000) &&
                  state[0] == program[1] && state[1] > planned, it->of, "a turn has a plan");
 }
 
 /* Steps programs that are forged, each 8 times. Returns how many steps had a result. Others weren't begun. */
 static uint64_t step_forged(const schedule *it, uint64_t count)
 {
-    uint64_t seed = it->program[1], found = 0, size = it->size;
+    uint64_t seed = it->program[1], found = 0, next, visits;
+    size_t size = it->size, length;
     for (; count; count--) {
         OWN uint64_t *program = (uint64_t *)block(it->program, LENGTH(program, size));
         forge(program, size, &seed);
-        uint64_t state_size = program[3] < 2 * size ? program[3] + 3 : it->state_size, moment = 0;
+        uint64_t state_size = program[3] < 2 * size ? program[3] + 4 : it->state_size, moment = 0;
         OWN uint64_t *state = (uint64_t *)block(NULL, LENGTH(state, state_size + 2));
-        uint32_t number = zs_program_begin(program, size, state, state_size);
-        hold(number == 0 || number == ZS_NO_PROGRAM || number == ZS_NO_ROOM, it->of, "a program is begun or denied");
+        enum zs_status number = zs_program_begin(program, size, state, state_size);
+        hold(number == ZS_OK || number == ZS_NO_PROGRAM || number == ZS_NO_ROOM, it->of, "a program is begun or denied");
         for (int i = 0; i < 8 && number <= ZS_DONE; i++, found++) {
-            OWN uint8_t *out = (uint8_t *)block(NULL, 9);
-            OWN zs_reply *reply = (zs_reply *)block(NULL, sizeof *reply);
+            OWN char *out = (char *)block(NULL, 9);
             moment += draw(&seed) % 1000;
-            number = zs_program_step(program, size, state, state_size + i % 3, moment, draw(&seed), reply, out, 9);
-            hold(number <= ZS_DONE && reply->visits <= 1000 && state[0] == program[1] && state[1] == moment, it->of,
-                 "a step has a result");
-            turn_forged(it, program, size, state, state_size + i % 3, &seed);
+            number = zs_program_step(program, size, state, state_size + i % 3, moment, draw(&seed), &next, &visits);
+            hold(number <= ZS_DONE && visits <= 1000 && state[0] == program[1] && state[1] == moment &&
+                     zs_output(program, size, state, state_size + i % 3, out, 9, &length) == ZS_OK, it->of,
+                 "a step has a result and an output");
+            turn_forged(it, program, state, state_size + i % 3, &seed);
             moment = state[1];
         }
         hold(is_untouched(state + state_size, LENGTH(state, 2)), it->of, "the words after a state are unchanged");
@@ -255,138 +283,272 @@ static uint64_t step_forged(const schedule *it, uint64_t count)
 }
 
 /* Writes the program of a schedule and its state. Returns the number of the last call. */
-static uint32_t compile(schedule *it, uint64_t *at)
+static enum zs_status compile(schedule *it, uint64_t *at)
 {
-    uint32_t number = zs_program_size(it->of->text, it->of->text_len, &it->size, &it->state_size, at);
+    enum zs_status number = zs_program_size(it->of->text, it->of->text_len, &it->size, &it->state_size, at);
     hold(!number || it->size + it->state_size == 0, it->of, "a text without a program has no sizes");
     if (number)
         return number;
+    hold(it->size <= ZS_PROGRAM_MOST && it->state_size <= ZS_STATE_MOST, it->of, "the header's largest words have room");
     it->program = (uint64_t *)block(NULL, LENGTH(it->program, it->size));
     it->state = (uint64_t *)block(NULL, LENGTH(it->state, it->state_size));
     number = zs_compile(it->of->text, it->of->text_len, it->program, it->size, at);
     return number ? number : zs_program_begin(it->program, it->size, it->state, it->state_size);
 }
 
-/* One call for the step of this number, over a state and with a room for the output. */
-static uint32_t call(const schedule *it, size_t number, uint64_t *state, zs_reply *reply, uint8_t *out, size_t room)
+/* Says the output of the last step, which it writes to rooms of some sizes. */
+static void say_output(const schedule *it, FILE *said)
 {
-    const zs_seen *seen = (const zs_seen *)it->of->numbers, *last = seen + number - 1;
-    if (!it->program)
-        return zs_answer(it->of->text, it->of->text_len, seen, number, reply, out, room);
-    long before = asked;
-    uint32_t found = zs_program_step(it->program, it->size, state, it->state_size, last->moment, last->input, reply, out, room);
-    hold(!is_alone || asked == before, it->of, "a step of a program allocates no memory");
-    return found;
+    OWN size_t *size = (size_t *)block(NULL, sizeof *size);
+    OWN char *whole = NULL;
+    hold(zs_output(it->program, it->size, it->state, it->state_size, NULL, 0, size) == ZS_OK, it->of, "a step has an output");
+    const size_t length = *size, rooms[] = {length + 1, length + 7, length, 1 + length / 2};
+    for (size_t i = 0; i < 4; i++) {
+        OWN char *out = (char *)block(NULL, rooms[i]);
+        size_t written = rooms[i] > length ? length + 1 : rooms[i];
+        whole = whole ? whole : (char *)block(NULL, length + 1);
+        hold(zs_output(it->program, it->size, it->state, it->state_size, out, rooms[i], size) == ZS_OK && *size == length &&
+                 is_untouched(out + written, rooms[i] - written), it->of, "an output is cut at its room");
+        if (i == 0)
+            memcpy(whole, out, written);
+        hold(whole[length] == 0 && memcmp(whole, out, written) == 0, it->of, "an output is the same in each room");
+    }
+    fputs(whole, said);
 }
 
-/* Makes a step, first with another room and over a copy of the state. Says its result, and returns its number. */
-static uint32_t step(schedule *it, size_t number, FILE *said)
+/* Makes a step, and says its result, or how many nodes it visited. Returns its number. */
+static enum zs_status step(const schedule *it, uint64_t moment, uint64_t input, FILE *said)
 {
-    static const size_t rooms[] = {0, 1, 5, 30, 400};
-    size_t room = rooms[number % 5], length = it->program ? LENGTH(it->state, it->state_size) : 0, size;
-    OWN uint64_t *state = (uint64_t *)block(it->state, length);
-    OWN uint8_t *cut = (uint8_t *)block(NULL, room), *out = NULL;
-    OWN zs_reply *reply = (zs_reply *)block(NULL, sizeof *reply), *again = (zs_reply *)block(NULL, sizeof *again);
-    uint32_t found = call(it, number, state, reply, cut, room);
-    hold(found <= ZS_DONE || (is_untouched(cut, room) && (!length || memcmp(state, it->state, length) == 0)), it->of,
-         "a failed step changes nothing");
-    if (found <= ZS_DONE) {
-        size = reply->size;
-        out = (uint8_t *)block(NULL, size);
-        found = call(it, number, it->state, again, out, size);
-        room = found > ZS_DONE || room < size ? room : size;
-        hold(found > ZS_DONE || (memcmp(reply, again, sizeof *reply) == 0 && (!room || memcmp(cut, out, room) == 0) &&
-                                 is_untouched(cut + room, rooms[number % 5] - room)), it->of, "an output is cut at its room");
-        hold(!length || memcmp(state, it->state, length) == 0, it->of, "the room doesn't change the state");
-        memcpy(reply, again, sizeof *reply);
+    OWN uint64_t *before = (uint64_t *)block(it->state, LENGTH(before, it->state_size));
+    OWN uint64_t *next = (uint64_t *)block(NULL, sizeof *next), *visits = (uint64_t *)block(NULL, sizeof *visits);
+    long made = asked;
+    enum zs_status number = zs_program_step(it->program, it->size, it->state, it->state_size, moment, input, next, visits);
+    hold(number <= ZS_DONE || ((*next | *visits) == 0 && memcmp(before, it->state, LENGTH(before, it->state_size)) == 0),
+         it->of, "a failed step changes nothing");
+    if (number > ZS_DONE)
+        say_fault(said, number, 0);
+    else if (*it->of->command == 'v')
+        fprintf(said, " %lu", *visits);
+    else {
+        fprintf(said, " %u,%lu,", number, *next);
+        say_output(it, said);
     }
-    if (found <= ZS_DONE)
-        fprintf(said, " %u,%lu,%lu,%.*s", found, reply->next, reply->visits, (int)reply->size, (const char *)out);
-    else
-        say_fault(said, found, reply->at);
-    hold(found <= ZS_DONE || (reply->next | reply->size | reply->visits) == 0, it->of, "a fault has a place alone");
-    return found;
+    hold(!is_alone || asked == made, it->of, "a step and its output allocate no memory");
+    return number;
 }
 
 static void say_steps(const request *it, FILE *said)
 {
     OWN_WORDS schedule made = {it, NULL, NULL, 0, 0};
-    uint64_t at = UNTOUCHED;
-    uint32_t number = *it->command == 'l' ? zs_check(it->text, it->text_len, &at) : compile(&made, &at);
+    uint64_t at = UNTOUCHED, checked = UNTOUCHED;
+    enum zs_status number = compile(&made, &at), found = refused_at < 0 ? zs_check(it->text, it->text_len, &checked) : number;
+    hold(refused_at >= 0 || (number == ZS_KEEPS_LIST ? found == ZS_OK : found == number && at == checked), it,
+         "a check finds what a compiler does");
     if (number)
         say_fault(said, number, at);
-    if (!number && made.program && refused_at < 0) {
+    if (!number && refused_at < 0) {
         test_words(&made);
         test_odd_states(&made);
     }
-    for (size_t i = 1; i <= it->count / 2 && number <= ZS_DONE; i++)
-        number = step(&made, i, said);
+    for (size_t i = 0; i + 1 < it->count && number <= ZS_DONE; i += 2)
+        number = step(&made, it->numbers[i], it->numbers[i + 1], said);
 }
 
-static void say_last(const request *it, FILE *said)
+static void say_plans(const request *it, FILE *said)
 {
     OWN_WORDS schedule made = {it, NULL, NULL, 0, 0};
-    uint8_t out[400];
-    zs_reply reply = {0, 0, 0, 0};
-    size_t last = it->count / 2;
-    uint32_t number = *it->command == 'r' ? compile(&made, &reply.at) : 0;
-    for (size_t i = made.program ? 1 : last; i <= last && number <= ZS_DONE; i++)
-        number = call(&made, i, made.state, &reply, out, sizeof out);
+    uint64_t at = UNTOUCHED;
+    enum zs_status number = compile(&made, &at);
+    if (number)
+        say_fault(said, number, at);
+    for (const uint64_t *turn = it->numbers + 3; turn < it->numbers + it->count && number <= ZS_DONE; turn += 4) {
+        const zs_turn given = {sizeof given, turn[0], turn[1], turn[2], it->numbers[1], it->numbers[2],
+                               (uint32_t)it->numbers[0], (uint32_t)turn[3]};
+        OWN zs_turn *block_of = (zs_turn *)block(&given, sizeof given);
+        OWN uint64_t *begin = (uint64_t *)block(NULL, sizeof *begin);
+        long before = asked;
+        number = zs_plan(made.program, made.size, made.state, made.state_size, block_of, begin);
+        hold(!is_alone || asked == before, it, "a plan allocates no memory");
+        hold(number == ZS_OK || *begin == 0, it, "what isn't planned has no begin");
+        if (number > ZS_DONE)
+            say_fault(said, number, 0);
+        else
+            fprintf(said, " %u,%lu", number, *begin);
+    }
+}
+
+static void say_restarted(const request *it, FILE *said)
+{
+    OWN_WORDS schedule made = {it, NULL, NULL, 0, 0};
+    const uint64_t start = 1000000000000000000;
+    uint64_t at, clock = start, count = 0, begin, last = 0;
+    enum zs_status number = compile(&made, &at);
+    while (number == ZS_OK && count < it->numbers[2]) {
+        OWN_WORDS schedule again = made;
+        made.program = (uint64_t *)block(again.program, LENGTH(again.program, again.size));
+        made.state = (uint64_t *)block(again.state, LENGTH(again.state, again.state_size));
+        zs_turn turn = ZS_TURN;
+        clock -= ++count == 3 ? it->numbers[1] * 1000000 : 0;
+        turn.began_ns = turn.ended_ns = clock > start ? clock - start : 0;
+        turn.input = it->numbers[0];
+        number = zs_plan(made.program, made.size, made.state, made.state_size, &turn, &begin);
+        last = number ? last : begin;
+        clock = start + last;
+    }
     if (number > ZS_DONE)
-        say_fault(said, number, reply.at);
+        say_fault(said, number, at);
     else
-        fprintf(said, " %u,%lu,%lu,%.*s", number, reply.next, reply.visits, (int)reply.size % 400, (const char *)out);
+        fprintf(said, " %lu %lu", count, last);
 }
 
 static void say_bounds(const request *it, FILE *said)
 {
-    OWN struct zs_bounds *found = (struct zs_bounds *)block(NULL, sizeof *found);
+    const uint64_t *numbers = it->numbers;
+    zs_driver given = ZS_DRIVER;
+    if (it->count > 2) {
+        given.least_ms = numbers[1];
+        given.has_most = 1;
+        given.most_ms = numbers[2];
+    }
+    if (it->count > 5) {
+        given.least_percent -= numbers[3];
+        given.asked_ms = numbers[4];
+        given.late_ms = numbers[5];
+    }
+    OWN zs_driver *driver = (zs_driver *)block(&given, sizeof given);
+    OWN zs_run_bounds *found = (zs_run_bounds *)block(NULL, sizeof *found);
     OWN uint64_t *at = (uint64_t *)block(NULL, sizeof *at);
-    const uint64_t any[] = {1, 0, 0}, given[] = {it->count > 2 ? it->numbers[1] : 0, 1, it->count > 2 ? it->numbers[2] : 0};
-    OWN zs_durations *durations = (zs_durations *)block(it->count > 2 ? given : any, sizeof *durations);
-    uint32_t number = zs_bounds(it->text, it->text_len, durations, it->numbers[0], found, at);
-    fprintf(said, " %u %lu %lu %lu %lu %lu %lu %lu %lu %lu %lu", number, found->seen, found->least, found->has_most, found->most,
-            found->longest, found->has_total, found->total, found->has_longest_run, found->longest_run, *at);
+    uint64_t *fields = &found->seen;
+    hold(zs_bounds(it->text, it->text_len, driver, numbers[0], found, at) == ZS_OTHER_SIZE &&
+             is_untouched(found, sizeof *found) && *at == 0, it, "bounds have the size of their struct");
+    found->size = sizeof *found;
+    driver->size--;
+    hold(zs_bounds(it->text, it->text_len, driver, numbers[0], found, at) == ZS_OTHER_SIZE &&
+             is_untouched(fields, sizeof *found - 8) && *at == 0, it, "a driver has the size of its struct");
+    driver->size++;
+    enum zs_status number = zs_bounds(it->text, it->text_len, driver, numbers[0], found, at);
+    hold(number == ZS_OK || is_untouched(fields, sizeof *found - 8), it, "a fault changes no bounds");
+    fprintf(said, " %u", number);
+    for (size_t i = 0; i < 9; i++)
+        fprintf(said, " %lu", number ? 0 : fields[i]);
+    fprintf(said, " %lu", *at);
 }
 
-/* An effect that fails, and says when each attempt began. */
+/* An effect that fails, and says when each attempt began, and what its hooks are called with. */
 typedef struct effect {
     FILE *said;
-    uint64_t begun, code, times;
+    uint64_t begun, code, times, stop, least;
 } effect;
-
-static uint64_t microseconds(void)
-{
-    struct timespec time;
-    clock_gettime(CLOCK_MONOTONIC, &time);
-    return (uint64_t)time.tv_sec * 1000000 + (uint64_t)time.tv_nsec / 1000;
-}
 
 static uint64_t attempt(void *data)
 {
     effect *it = (effect *)data;
-    fprintf(it->said, " %lu", microseconds() - it->begun);
+    fprintf(it->said, " %lu", retry_passed(it->begun) / 1000);
     return it->times-- ? it->code : 0;
+}
+
+static int is_retried(void *data, uint64_t code) { return code != ((effect *)data)->stop; }
+
+static uint64_t least_ms(void *data, uint64_t code) { return code ? ((effect *)data)->least : 0; }
+
+static void before_sleep(void *data, uint64_t code, uint64_t attempt, uint64_t wait_ns)
+{
+    if (code)
+        fprintf(((effect *)data)->said, " %lu:%lu", attempt, wait_ns / 1000000);
+}
+
+/* Says how a call ended, and then what was noted in the file, which it closes. */
+static void say_end(retry_result result, FILE *noted, char *const *notes, FILE *said)
+{
+    fclose(noted);
+    if (result.end == RETRY_FAULT)
+        say_fault(said, result.status, 0);
+    else if (result.end == RETRY_CANCELLED)
+        fputs(" cancelled", said);
+    else
+        fprintf(said, result.end == RETRY_DONE ? " done" : " %lu", result.code);
+    fputs(*notes, said);
 }
 
 static void say_retry(const request *it, FILE *said)
 {
-    OWN char *moments, *policy = strndup((const char *)it->text, it->text_len);
+    static retry_budget budget = RETRY_BUDGET(10000, 500);
+    OWN char *notes = NULL, *text = strndup(it->text, it->text_len);
+    const uint64_t *numbers = it->numbers;
     size_t size;
-    effect failing = {open_memstream(&moments, &size), microseconds(), it->numbers[0], it->numbers[1]};
-    uint64_t code = retry(policy, attempt, &failing);
-    fclose(failing.said);
-    fprintf(said, code ? " %lu" : " done", code);
-    fputs(moments, said);
+    uint64_t at = 0;
+    effect failing = {open_memstream(&notes, &size), retry_passed(0), numbers[0], numbers[1], 0, 0};
+    retry_options options = {NULL, NULL, 0, NULL, 0, NULL, NULL};
+    retry_policy policy;
+    if (it->count > 2) {
+        const retry_options all = {is_retried, least_ms, it->count > 6 ? numbers[6] : 0, before_sleep,
+                                   (uint32_t)numbers[2], numbers[5] ? &budget : NULL, NULL};
+        options = all;
+        failing.least = numbers[3];
+        failing.stop = numbers[4];
+    }
+    enum zs_status status = retry_compile(&policy, text, &at);
+    const retry_result fault = {RETRY_FAULT, status, at, 0};
+    say_end(status ? fault : retry(&policy, it->count > 2 ? &options : NULL, attempt, &failing), failing.said, &notes, said);
+}
+
+/* What a call of `order` notes, and what it is asked to do. */
+typedef struct order {
+    FILE *said;
+    const char *what;
+    volatile int cancel;
+} order;
+
+static uint64_t ordered_attempt(void *data)
+{
+    order *it = (order *)data;
+    fputs(" attempt", it->said);
+    __atomic_store_n(&it->cancel, strcmp(it->what, "cancelled") == 0, __ATOMIC_RELEASE);
+    return 7;
+}
+
+static int ordered_is_retried(void *data, uint64_t code)
+{
+    return code == 7 && strcmp(((order *)data)->what, "unretried") != 0;
+}
+
+static uint64_t ordered_least_ms(void *data, uint64_t code)
+{
+    fputs(" least", ((order *)data)->said);
+    return code - 7;
+}
+
+static void ordered_before_sleep(void *data, uint64_t code, uint64_t attempt, uint64_t wait_ns)
+{
+    fputs(code == 7 && attempt && wait_ns < 60000000000 ? " sleep" : " ?", ((order *)data)->said);
+}
+
+static void say_order(const request *it, FILE *said)
+{
+    OWN char *text = strndup(it->text, it->text_len);
+    retry_budget budget = RETRY_BUDGET(10000, 500), broke = RETRY_BUDGET(1000, 0);
+    order noted = {said, it->what, 0};
+    retry_budget *shared = strcmp(it->what, "broke") == 0 ? &broke : &budget;
+    const retry_options options = {ordered_is_retried, ordered_least_ms, 0, ordered_before_sleep, 0, shared, &noted.cancel};
+    retry_policy policy;
+    uint64_t at;
+    hold(retry_compile(&policy, text, &at) == ZS_OK, it, "the policy has a program");
+    retry_result result = retry(&policy, &options, ordered_attempt, &noted);
+    if (result.end == RETRY_CANCELLED)
+        fputs(" cancelled", said);
+    else
+        fprintf(said, " %lu", result.code);
+    fprintf(said, " %.1f", (double)shared->tokens / 1000);
 }
 
 static void step_many(const request *it)
 {
     OWN_WORDS schedule made = {it, NULL, NULL, 0, 0};
-    zs_reply reply = {0, 0, 0, 0};
-    hold(compile(&made, &reply.at) == 0, it, "the policy has a program");
+    uint64_t at, visits, next = 0;
+    hold(compile(&made, &at) == 0, it, "the policy has a program");
     for (uint64_t i = 1; i <= it->numbers[0]; i++) {
-        zs_program_step(made.program, made.size, made.state, made.state_size, reply.next, 503, &reply, NULL, 0);
+        hold(zs_program_step(made.program, made.size, made.state, made.state_size, next, 503, &next, &visits) <= ZS_DONE, it,
+             "a step has a result");
         if (i % (it->numbers[0] / 10) == 0)
             puts("");
         fflush(stdout);
@@ -417,8 +579,12 @@ static char *served(const request *it)
         say_retry(it, said);
     else if (is(it, "forged"))
         say_forged(it, said);
-    else if (is(it, "answer") || is(it, "run"))
-        say_last(it, said);
+    else if (is(it, "plan"))
+        say_plans(it, said);
+    else if (is(it, "restarted"))
+        say_restarted(it, said);
+    else if (is(it, "order"))
+        say_order(it, said);
     else
         say_steps(it, said);
     fclose(said);
@@ -449,7 +615,7 @@ static void *thread(void *ignored)
     for (size_t i = 0; i < TIMES * request_count; i++) {
         const request *it = &requests[i % request_count];
         OWN char *found = served(it);
-        hold(strcmp(found, it->answer) == 0, it, found);
+        hold(strcmp(found, it->line) == 0, it, found);
     }
     return ignored;
 }
@@ -478,14 +644,17 @@ static void read_request(request *it, char *line)
     it->command = strdup(strtok_r(line, " \n", &rest));
     digits = strtok_r(NULL, " \n", &rest) + 1;
     it->text_len = strlen(digits) / 2;
-    it->text = (uint8_t *)block(NULL, it->text_len);
+    it->text = (char *)block(NULL, it->text_len);
+    it->what = NULL;
     for (size_t i = 0; i < it->text_len; i++) {
         const char pair[] = {digits[2 * i], digits[2 * i + 1], 0};
-        it->text[i] = (uint8_t)strtoul(pair, NULL, 16);
+        it->text[i] = (char)strtoul(pair, NULL, 16);
     }
     it->numbers = (uint64_t *)block(NULL, LENGTH(it->numbers, words - 1));
-    for (it->count = 0; (word = strtok_r(NULL, " \n", &rest)); it->count++)
+    for (it->count = 0; (word = strtok_r(NULL, " \n", &rest)); it->count++) {
+        it->what = it->what ? it->what : strdup(word);
         it->numbers[it->count] = strtoull(word, NULL, 10);
+    }
 }
 
 int main(int count, char **words)
@@ -496,18 +665,18 @@ int main(int count, char **words)
         requests = (request *)__real_realloc(requests, LENGTH(requests, request_count + 1));
         request *it = &requests[request_count++];
         read_request(it, line);
-        it->answer = NULL;
+        it->line = NULL;
         if (*it->command == 'm')
             step_many(it);
         else if (count > 1 && *words[1] == 'r')
             printf("%ld\n", refuse(it));
         else
-            it->answer = served(it);
+            it->line = served(it);
     }
     if (count > 1 && *words[1] == 't')
         run_at_once();
     for (size_t i = 0; i < request_count; i++)
-        if (requests[i].answer)
-            puts(requests[i].answer + (*requests[i].answer == ' '));
+        if (requests[i].line)
+            puts(requests[i].line + (*requests[i].line == ' '));
     return 0;
 }
