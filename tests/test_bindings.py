@@ -286,7 +286,7 @@ def test_the_example_in_go_waits_for_its_server_and_its_tests_pass(library, tmp_
     for tests in CLIENTS.glob("*_go_test.go"):
         shutil.copy(tests, folder)
     ran(["go", "vet", "./..."], folder, **variables)
-    assert ran(["go", "test", "-v", "."], folder, **variables).count("--- PASS: ") == 12
+    assert ran(["go", "test", "-v", "."], folder, **variables).count("--- PASS: ") == 16
     ran(["go", "build", "-o", tmp_path / "example", "./example"], folder, **variables)
     assert ran(["./example"], tmp_path, LD_LIBRARY_PATH=library) == READY
 
@@ -296,7 +296,7 @@ def test_the_example_in_node_waits_for_its_server_and_its_tests_pass(library, tm
     addon = {"ZSCHED_NODE": tmp_path / "node_modules/zsched/zsched.node"}
     assert ran(["node", BINDINGS / "node" / "example.js"], tmp_path, **addon) == READY
     shutil.copy(CLIENTS / "only_in_node.test.js", tmp_path)
-    assert "# pass 14\n" in ran(["node", "--test", "only_in_node.test.js"], tmp_path)
+    assert "# pass 17\n" in ran(["node", "--test", "only_in_node.test.js"], tmp_path)
 
 
 def crate(library, tmp_path):
@@ -314,7 +314,7 @@ def test_the_example_in_rust_waits_for_its_server_and_its_tests_pass(library, tm
     cargo = ["cargo", "--quiet", "--offline"]
     assert ran([*cargo, "run", "--example", "retry"], folder, **variables) == READY
     said = ran([*cargo, "test"], folder, **variables)
-    assert re.findall(r"\d+ passed", said) == ["0 passed", "12 passed", "6 passed"]
+    assert re.findall(r"\d+ passed", said) == ["0 passed", "16 passed", "5 passed"]
     ran([*cargo, "check", "--no-default-features"], folder, **variables)
 
 

@@ -67,9 +67,7 @@ typedef struct retry_result {
 /* Compiles a text: ZS_OK, or what zs_compile returns for it, with its place. */
 static inline enum zs_status retry_compile(retry_policy *policy, const char *text, uint64_t *at)
 {
-    uint64_t state[RETRY_WORDS];
-    enum zs_status status = zs_compile(text, strlen(text), policy->program, RETRY_WORDS, at);
-    return status ? status : zs_program_begin(policy->program, RETRY_WORDS, state, RETRY_WORDS);
+    return zs_compile(text, strlen(text), policy->program, RETRY_WORDS, at);
 }
 
 /* Returns the nanoseconds of a monotonic clock since a moment of it. */
@@ -100,11 +98,12 @@ static inline void retry_sleep(uint64_t until_ns, const volatile int *cancel)
 static inline int retry_count(retry_budget *budget, int is_error)
 {
     uint64_t next, tokens = __atomic_load_n(&budget->tokens, __ATOMIC_RELAXED);
-    do
-        next = is_error                                  ? tokens - (tokens < 1000 ? tokens : 1000)
-               : budget->ratio < budget->most - tokens ? tokens + budget->ratio
-                                                        : budget->most;
-    while (!__atomic_compare_exchange_n(&budget->tokens, &tokens, next, 1, __ATOMIC_RELAXED, __ATOMIC_RELAXED));
+    do {
+        if (is_error)
+            next = tokens < 1000 ? 0 : tokens - 1000;
+        else
+            next = budget->ratio < budget->most - tokens ? tokens + budget->ratio : budget->most;
+    } while (!__atomic_compare_exchange_n(&budget->tokens, &tokens, next, 1, __ATOMIC_RELAXED, __ATOMIC_RELAXED));
     return next > budget->most / 2;
 }
 

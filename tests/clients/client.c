@@ -470,7 +470,8 @@ static void say_end(retry_result result, FILE *noted, char *const *notes, FILE *
     fputs(*notes, said);
 }
 
-static void say_retry(const request *it, FILE *said)
+/* A separate function, because its words would take up the stack of all calls. */
+__attribute__((noinline)) static void say_retry(const request *it, FILE *said)
 {
     static retry_budget budget = RETRY_BUDGET(10000, 500);
     OWN char *notes = NULL, *text = strndup(it->text, it->text_len);
@@ -523,7 +524,7 @@ static void ordered_before_sleep(void *data, uint64_t code, uint64_t attempt, ui
     fputs(code == 7 && attempt && wait_ns < 60000000000 ? " sleep" : " ?", ((order *)data)->said);
 }
 
-static void say_order(const request *it, FILE *said)
+__attribute__((noinline)) static void say_order(const request *it, FILE *said)
 {
     OWN char *text = strndup(it->text, it->text_len);
     retry_budget budget = RETRY_BUDGET(10000, 500), broke = RETRY_BUDGET(1000, 0);
