@@ -2,6 +2,7 @@
 import asyncio
 import functools
 import inspect
+import math
 import sys
 import time
 
@@ -10,14 +11,35 @@ import zsched
 BUDGET = zsched.Budget(10, 0.5)
 
 
-def steps(command, text, numbers):
+def steps(form, text, *numbers):
     """Yields the words of a line of steps."""
-    schedule = zsched.Schedule(text) if command == "list" else zsched.Stepper(text)
+    schedule = zsched.Schedule(text)
     for moment, value in zip(numbers[::2], numbers[1::2]):
-        if command == "stored":
-            schedule = zsched.Stepper.load(schedule.save())
-        result = schedule.after(moment, value)
-        yield f"{int(result.next is None)},{result.next or 0},{result.visits},{result.output}"
+        if form == "stored":
+            schedule = zsched.Schedule.load(schedule.save())
+        following = schedule.after(moment, value)
+        yield f"{int(following is None)},{following or 0},{schedule.output()}"
+
+
+def plan(text, percent, least, longest, *numbers):
+    """Yields the words of a line of turns."""
+    schedule = zsched.Schedule(text)
+    for began, ended, value, draw in zip(*(numbers[place::4] for place in range(4))):
+        begin = schedule.plan(began, ended, value, least=least, longest=longest, jitter=percent / 100, draw=draw)
+        yield f"{int(begin is None)},{begin or 0}"
+
+
+def restarted(text, code, back, most):
+    """Plans attempts that fail at once, each by what was stored, over a clock that is set back."""
+    start, last, number, saved = 10 ** 18, 0, 0, zsched.Schedule(text).save()
+    clock, begin = start, 0
+    while begin is not None and number < most:
+        number, schedule = number + 1, zsched.Schedule.load(saved)
+        clock -= 1_000_000 * back * (number == 3)
+        begin = schedule.plan(clock - start, clock - start, code)
+        last, saved = last if begin is None else begin, schedule.save()
+        clock = start + last
+    return [number, last]
 
 
 def retry(form, text, code, times, jitter=0, least=0, stop=None, budget=0, most=3600_000):
@@ -54,6 +76,25 @@ def retry(form, text, code, times, jitter=0, least=0, stop=None, budget=0, most=
         return [asyncio.run(tried()) if inspect.iscoroutinefunction(tried) else tried(), *said]
     except (OSError, EOFError) as error:
         return [error.args[0], *said]
+
+
+def order(text, what):
+    """What a retry calls, in its order."""
+    said, budget = [], zsched.Budget(1, 0) if what == "broke" else zsched.Budget(10, 0.5)
+
+    def say(name, found=None):
+        return lambda *_: said.append(name) or found
+
+    @zsched.retrying(text, on=EOFError if what == "unretried" else OSError, budget=budget, before_sleep=say("sleep"),
+                     on_give_up=say("end"), input_of=say("input", None if what == "input" else 7),
+                     retry_after=say("least", math.nan if what == "least" else 0.0))
+    def effect():
+        said.append("attempt")
+        raise OSError(7, "failed")
+    try:
+        effect()
+    except OSError as error:
+        return [*said, error.errno, f"{budget.tokens:.1f}"]
 
 
 def limited(form, text, code, times, most):
@@ -125,17 +166,18 @@ def good(form, text, count):
     return [(time.perf_counter_ns() - begun) // count]
 
 
-def bounds(text, count, *attempt):
-    """Returns the fields of struct zs_bounds."""
-    seen, least, most, longest, *limits = zsched.bounds(text, count, *[attempt] * bool(attempt))
+def bounds(text, count, least=1, longest=None, jitter=0, asked=0, late=0):
+    """Returns the fields of zs_run_bounds."""
+    found = zsched.bounds(text, count, (least, longest), jitter=jitter / 100, asked=asked, late=late)
+    seen, least, most, longest, *limits = found
     most, total, run = ([int(it is not None), it or 0] for it in [most, *limits])
     return [seen, least, *most, longest, *total, *run]
 
 
 def many(text, count):
-    schedule, moment = zsched.Stepper(text), 0
+    schedule, moment = zsched.Schedule(text), 0
     for number in range(1, count + 1):
-        moment = schedule.after(moment, 503).next
+        moment = schedule.after(moment, 503)
         if number % (count // 10) == 0:
             print(flush=True)
     return []
@@ -143,13 +185,15 @@ def many(text, count):
 
 CALLS = {form: functools.partial(retry, form) for form in ["retry", "later", "loop", "later_loop"]}
 CALLS |= {f"limited_{form}": functools.partial(limited, form) for form in ["later", "loop", "later_loop"]}
+CALLS |= {form: functools.partial(steps, form) for form in ["program", "stored"]}
 CALLS |= {"good": functools.partial(good, ""), "good_later": functools.partial(good, "later")}
-CALLS |= {"bounds": bounds, "many": many, "version": lambda _: [zsched.calls.library().zs_version()]}
+CALLS |= {"plan": plan, "restarted": restarted, "order": order, "bounds": bounds, "many": many,
+          "version": lambda _: [zsched.calls.library().zs_version()]}
 for line in sys.stdin:
     command, digits, *words = line.split()
-    text, numbers, said = bytes.fromhex(digits[1:]).decode(), list(map(int, words)), []
+    text, words, said = bytes.fromhex(digits[1:]).decode(), [it if it.isalpha() else int(it) for it in words], []
     try:
-        said.extend(CALLS[command](text, *numbers) if command in CALLS else steps(command, text, numbers))
+        said.extend(CALLS[command](text, *words))
     except zsched.Fault as fault:
         said.append(f"{fault.number},{fault.at},{fault}")
     print(*said)

@@ -1,8 +1,8 @@
 """Uses each call of the package's hints: `mypy --strict`. A line with `type: ignore` has to be rejected."""
 import asyncio
 
-from zsched import (Answer, Attempt, Bounds, Budget, Fault, Retrying, Schedule, ScheduleFault, Statistics, Stepper,
-                    Tried, bounds, check, retrying)
+from zsched import (Attempt, Bounds, Budget, Fault, Retrying, Schedule, ScheduleFault, Statistics, Tried, bounds,
+                    retrying)
 
 TEXT = "(exponential(10) && recurs(5))"
 BUDGET = Budget(tokens=10, ratio=0.1)
@@ -19,7 +19,7 @@ def fetch(url: str) -> bytes:
     return url.encode()
 
 
-@retrying(Stepper(TEXT))
+@retrying(Schedule(TEXT))
 async def fetch_later(url: str) -> bytes:
     return fetch(url)
 
@@ -38,16 +38,18 @@ async def loops() -> list[int]:
     return numbers
 
 
-def answers(schedule: Schedule | Stepper) -> Answer:
-    return schedule.load(schedule.save()).after(1, 503)
+def moments(schedule: Schedule) -> list[int | None]:
+    other = Schedule.load(schedule.save()).begin()
+    return [other.plan(0, 5), other.plan(5, 9, 503, least=1, longest=2, jitter=0.5, draw=7), schedule.after(1, 503)]
 
 
 def main() -> None:
-    found: Bounds = bounds(TEXT, 1000, attempt=(1, 5000))
+    found: Bounds = bounds(TEXT, 1000, attempt=(1, 5000), jitter=0.5, asked=3, late=1)
     assert found.within(6, 3100) and found.ends_within(30_000)
-    check(TEXT)
+    schedule = Schedule(TEXT)
+    output: str = schedule.output() if moments(schedule) else schedule.text
     try:
-        print(answers(Schedule(TEXT)).next, Stepper(TEXT).state, BUDGET.tokens, Statistics().calls)
+        print(output, schedule.state, bounds(schedule, 9).most, BUDGET.tokens, Statistics().calls)
     except ScheduleFault as fault:
         print(fault.at, fault.text)
     except Fault as fault:
@@ -60,4 +62,6 @@ def main() -> None:
     print(left, page, fetch.statistics.calls, fetch_later.with_(on=OSError).statistics.slept)
     fetch(7)  # type: ignore[arg-type]
     fetch.with_(jitter=0.1)(7)  # type: ignore[arg-type]
-    check(7)  # type: ignore[arg-type]
+    Schedule(7)  # type: ignore[arg-type]
+    schedule.plan(0.5, 1)  # type: ignore[arg-type]
+    retrying(7)  # type: ignore[arg-type]

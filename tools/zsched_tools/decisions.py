@@ -17,8 +17,9 @@ from zsched_tools.schedule_rules import MAX_DEPTH, MAX_WEIGHT, cause_of
 # How many requests are run together.
 TOGETHER = 10_000
 TIMED, INPUTS = {"elapsed", "fixed", "windowed"}, {"identity", "whileInput"}
-SONAME = "libzsched.so.1"
-_CALLS = ["zs_program_size", "zs_compile", "zs_program_begin", "zs_program_step"]
+SONAME = "libzsched.so.2"
+# A library that has no zs_plan is an older one, whose calls take other words.
+_CALLS = ["zs_program_size", "zs_compile", "zs_program_begin", "zs_program_step", "zs_plan"]
 _DONE = 1
 _STEP = re.compile(rb"\.\.([0-9]+) \S+ [0-9]+\nstep ([0-9]+) out \S+ (?:next ([0-9]+)|done)\n")
 
@@ -41,7 +42,7 @@ class Program:
     """The program of a schedule, by the library, and steps of its states, which are arrays of words."""
 
     def __init__(self, library, schedule):
-        text, sizes, at = schedule.encode(), [ctypes.c_uint64(), ctypes.c_uint64()], ctypes.byref(ctypes.c_uint64())
+        text, sizes, at = schedule.encode(), [ctypes.c_size_t(), ctypes.c_size_t()], ctypes.byref(ctypes.c_uint64())
         length = ctypes.c_size_t(len(text))
         self.number = library.zs_program_size(text, length, *map(ctypes.byref, sizes), at)
         words, self.first = ((ctypes.c_uint64 * size.value)() for size in sizes)
@@ -49,10 +50,10 @@ class Program:
             program = words, ctypes.c_size_t(len(words))
             library.zs_compile(text, length, *program, at)
             library.zs_program_begin(*program, self.first, ctypes.c_size_t(len(self.first)))
-            self.reply, self.words = (ctypes.c_uint64 * 4)(), (*program, ctypes.c_size_t(len(self.first)))
+            self.next, self.visits, self.words = ctypes.c_uint64(), ctypes.c_uint64(), (*program, len(self.first))
             self.step = library.zs_program_step
             self.step.argtypes = [ctypes.c_void_p, ctypes.c_size_t] * 2 + [ctypes.c_uint64] * 2 + [
-                ctypes.c_void_p, ctypes.c_void_p, ctypes.c_size_t]
+                ctypes.POINTER(ctypes.c_uint64)] * 2
 
     def begin(self):
         """A state before its first step."""
@@ -61,10 +62,10 @@ class Program:
     def wait(self, state, moment, code):
         """Makes a step. Returns the wait after it, or None if the schedule is done."""
         program, length, size = self.words
-        number = self.step(program, length, state, size, moment, code, self.reply, None, 0)
+        number = self.step(program, length, state, size, moment, code, self.next, self.visits)
         if number > _DONE:
             raise ChildProcessError(f"libzsched: a step failed with the number {number}")
-        return None if number == _DONE else self.reply[0] - moment
+        return None if number == _DONE else self.next.value - moment
 
 
 class Decisions:

@@ -4,8 +4,8 @@
         with attempt:
             value = fetch()
 
-`retrying` really sleeps, and is a decorator too, for functions and coroutines. `Schedule` and
-`Stepper` don't sleep: pass them the moment and the input of each attempt, and they return when the
+`retrying` really sleeps, and is a decorator too, for functions and coroutines. `Schedule` doesn't
+sleep: pass it when each attempt began and ended, and the code of its error, and it returns when the
 next one may begin. `bounds` returns how often and how long a schedule retries at most, for every
 input. These results are proved; the sleeping is not.
 
@@ -14,8 +14,8 @@ folder of this file, else the one that build/make-library made in this tree, els
 from .budgets import Budget
 from .faults import Fault, ScheduleFault
 from .retries import Attempt, Retrying, Statistics, Tried, retrying
-from .schedules import Answer, Bounds, Schedule, Stepper, bounds, check
+from .schedules import Bounds, Schedule, bounds
 
-__all__ = ["Answer", "Attempt", "Bounds", "Budget", "Fault", "Retrying", "Schedule", "ScheduleFault", "Statistics",
-           "Stepper", "Tried", "bounds", "check", "retrying"]
+__all__ = ["Attempt", "Bounds", "Budget", "Fault", "Retrying", "Schedule", "ScheduleFault", "Statistics", "Tried",
+           "bounds", "retrying"]
 __version__ = "0.3.0"

@@ -4,8 +4,9 @@ import typing
 
 from .calls import library
 
-DONE, FALLS, NO_MEMORY, KEEPS_LIST = 1, 3, 5, 6
-OF_TEXTS = [4, *range(11, 17)]
+DONE, NO_MEMORY = 1, 5
+OF_TEXTS = [4, 6, *range(11, 17)]
+ROOM = 80
 
 
 class Fault(ValueError):
@@ -23,7 +24,7 @@ class Fault(ValueError):
 
 
 class ScheduleFault(Fault):
-    """The text `text` is no schedule. `number` and `at` are those of zsched.h."""
+    """The text `text` is no schedule, or has collectAll. `number` and `at` are those of zsched.h."""
 
     text: str
 
@@ -36,16 +37,22 @@ class ScheduleFault(Fault):
 
 
 def fault_text(number: int, at: int = 0) -> str:
-    """Returns the text of a number of zsched.h and its place, or "" if the number is no fault."""
-    room = ctypes.create_string_buffer(256)
-    size = library().zs_fault_text(number, at, room, len(room))
-    return room.raw[:size].decode()
+    """Returns the text of a number of zsched.h and its place, or "" if the number is no error."""
+    room = ctypes.create_string_buffer(ROOM)
+    library().zs_strerror(number, at, room, ROOM)
+    return room.value.decode()
 
 
-def refuse(text: str, number: int, at: int) -> None:
-    """Raises the error that a number of zsched.h represents, if it is a fault."""
+def refuse(text: str, number: int, at: int = 0) -> None:
+    """Raises the error that a number of zsched.h represents, if it is one."""
     if number <= DONE:
         return
     if number == NO_MEMORY:
         raise MemoryError(f"zsched: {fault_text(number)}")
     raise ScheduleFault(text, number, at) if number in OF_TEXTS else Fault(number, at)
+
+
+def refuse_outside(name: str, given: float, most: float) -> None:
+    """Raises ValueError if a number isn't from 0 to another."""
+    if not 0 <= given <= most:
+        raise ValueError(f"zsched: the {name} {given} is not from 0 to {most:.0f}")

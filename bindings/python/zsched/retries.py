@@ -6,17 +6,17 @@ import contextlib
 import dataclasses
 import functools
 import inspect
-import math
-import random
 import threading
 import time
 import types
 import typing
 
 from .budgets import Budget
-from .schedules import Schedule, Stepper, begins
+from .faults import refuse_outside
+from .schedules import Schedule
 
-LONGEST = threading.TIMEOUT_MAX
+# Seconds, some 31 years. A longer wait is slept in parts, since Python's sleeps raise OSError for 292 years.
+LONGEST = 1e9
 GENERATORS = (types.GeneratorType, types.AsyncGeneratorType, contextlib._GeneratorContextManager,
               contextlib._AsyncGeneratorContextManager)
 P = typing.ParamSpec("P")
@@ -51,19 +51,19 @@ class Statistics:
 class Attempt:
     """One attempt, as a context manager.
 
-    It suppresses an error of the expected classes if the schedule goes on. `number` counts the
+    It suppresses an error of the expected classes if another attempt follows. `number` counts the
     attempts from 1."""
 
     number: int
 
     def __init__(self, run: "Run") -> None:
         run.attempts, run.is_over = run.attempts + 1, True
-        self._run, self.number, self._begun = run, run.attempts, run.by.clock()
+        self._run, self.number = run, run.attempts
 
     def left(self) -> float | None:
         """Returns the seconds that remain of attempt_most, or None without it. The attempt has to end in time."""
         most = self._run.by.attempt_most
-        return None if most is None else max(0.0, most - (self._run.by.clock() - self._begun))
+        return None if most is None else max(0.0, most - (self._run.now() - self._run.began) / 1e9)
 
     def __enter__(self) -> "Attempt":
         return self
@@ -79,10 +79,16 @@ def whole_number(found: typing.Any) -> int:
 
 
 def seconds(found: typing.Any) -> float:
-    """Returns a finite number of seconds, 0 for None, or raises an error."""
-    if found is not None and not math.isfinite(found):
+    """Returns a number of seconds from 0 to LONGEST, 0 for None, or raises an error."""
+    if found != found:
         raise ValueError(found)
-    return 0.0 if found is None else float(0.0 + found)
+    return 0.0 if found is None else float(min(max(0.0, found), LONGEST))
+
+
+def milliseconds(duration: float) -> int:
+    """Returns seconds as whole milliseconds, rounded up."""
+    # First to whole nanoseconds, since 0.07 seconds are a little more than 70 milliseconds.
+    return -(-round(duration * 1e9) // 1_000_000)
 
 
 def refuse_awaitable(result: typing.Any, why: str) -> None:
@@ -96,12 +102,13 @@ def refuse_awaitable(result: typing.Any, why: str) -> None:
 class Run:
     """One run of a Retrying, which iterates over its attempts.
 
-    It holds the schedule, the start, and the moment that is planned for the next attempt."""
+    It holds the schedule, the start, when the last attempt began, in nanoseconds from the start, and until when the
+    clock has to go before the next one."""
 
     # It is made after the first error. Most calls have none, and set nothing of this.
-    schedule: Schedule | Stepper | None = None
-    attempts = planned = 0
-    until = wait = early = 0.0
+    schedule: Schedule | None = None
+    attempts = began = 0
+    until = wait = 0.0
     is_over = False
 
     def __init__(self, by: "Retrying") -> None:
@@ -129,29 +136,33 @@ class Run:
             await self.sleep_asynchronously()
         return Attempt(self)
 
+    def now(self) -> int:
+        """Returns the nanoseconds from the start by the clock."""
+        return round((self.by.clock() - self.start) * 1e9)
+
+    def rest(self) -> float:
+        """Returns the seconds until the next attempt may begin, at most LONGEST."""
+        return min(self.until - self.by.clock(), LONGEST)
+
     def sleep(self) -> None:
         """Sleeps until the next attempt may begin."""
         if self.by.sleep is not None:
             refuse_awaitable(self.by.sleep(self.wait),
                              f"{self.by.sleep!r} sleeps asynchronously, and the function or loop doesn't")
         else:
-            while (rest := self.until - self.by.clock()) > 0:
+            while (rest := self.rest()) > 0:
                 time.sleep(rest)
-        self.note_begin()
+        self.began = self.now()
 
     async def sleep_asynchronously(self) -> None:
         """The same, for a coroutine. Other tasks run in any case."""
         if self.by.sleep is not None:
             await self.by.sleep(self.wait)
         else:
-            await asyncio.sleep(max(0.0, self.until - self.by.clock()))
-            while (rest := self.until - self.by.clock()) > 0:
+            await asyncio.sleep(max(0.0, self.rest()))
+            while (rest := self.rest()) > 0:
                 await asyncio.sleep(rest)
-        self.note_begin()
-
-    def note_begin(self) -> None:
-        """Notes how early the next attempt begins. It counts as if it began at its planned moment."""
-        self.early = max(0.0, self.start + self.planned / 1000 - self.by.clock())
+        self.began = self.now()
 
     def call_hook(self, name: str, *words: typing.Any) -> typing.Any:
         """Returns what a hook returns. Raises TypeError for an awaitable, which nothing awaits."""
@@ -160,10 +171,11 @@ class Run:
         return result
 
     def number_of(self, name: str, failure: typing.Any, convert: collections.abc.Callable[[typing.Any], T]) -> T | None:
-        """Returns what a hook returns for an error or result, which has to be a number. If it is none, adds a note to
-        the error and returns None; a result has no notes, so then it raises ValueError."""
+        """Returns the number that a hook returns for an error or result. If it is none, adds a note to the error and
+        returns None; a result has no notes, so then it raises ValueError."""
+        hook = getattr(self.by, name)
         try:
-            return convert(getattr(self.by, name)(failure))
+            return convert(None if hook is None else hook(failure))
         except Exception as fault:
             why = f"zsched: not tried again, since {name} returned no {convert.__name__.replace('_', ' ')}: {fault!r}"
         if not isinstance(failure, BaseException):
@@ -189,44 +201,27 @@ class Run:
         return False
 
     def goes_on(self, failure: typing.Any) -> bool:
-        """Steps the schedule by an error, or a result that counts as one. Returns whether another attempt follows."""
+        """Plans the next attempt after an error, or a result that counts as one. Returns whether it follows."""
+        ended, begin = self.now(), None
         code = self.number_of("input_of", failure, whole_number)
-        least = 0.0 if self.by.retry_after is None else self.number_of("retry_after", failure, seconds)
+        least = None if code is None else self.number_of("retry_after", failure, seconds)
         if code is None or least is None:
             return False
-        if self.schedule is None:
-            self.schedule = self.by.begin()
-        # The attempt counts as 1 millisecond at least, even if the clock is set back or its sleep ended early.
-        now = self.by.clock()
-        # In whole nanoseconds, since 0.005 seconds of a clock's floats may be a little less than 5 milliseconds.
-        passed = max(round((now - self.start + self.early) * 1e9) // 1_000_000, self.planned)
-        following = None
         if self.by.budget is None or self.by.budget.take():
-            following = self.schedule.after(min(max(passed, self.planned + 1), 2 ** 64 - 1), code).next
-        if following is None:
+            if self.schedule is None:
+                self.schedule = typing.cast(Schedule, self.by.schedule).begin()
+            begin = self.schedule.plan(self.began, ended, code, least=milliseconds(least), jitter=self.by.jitter,
+                                       longest=milliseconds(self.by.retry_after_most))
+        if begin is None:
             self.by.statistics.add(given_up=1)
             if self.by.on_give_up is not None:
                 self.call_hook("on_give_up", failure, self.attempts)
             return False
-        self.plan(failure, now, passed, following, least)
+        self.until, self.wait, self.is_over = self.start + begin / 1e9, (begin - max(0, ended)) / 1e9, False
         self.by.statistics.add(retries=1, slept=self.wait)
         if self.by.before_sleep is not None:
             self.call_hook("before_sleep", failure, self.attempts, self.wait)
         return True
-
-    def plan(self, failure: typing.Any, now: float, passed: int, following: int, least: float) -> None:
-        """Plans the next attempt, which may begin at the millisecond `following`."""
-        wait, until = (following - passed) / 1000, self.start + following / 1000
-        if self.by.jitter:
-            wait = (following - max(passed, self.planned + 1)) / 1000 * (1 - self.by.jitter * random.random())
-            until = min(until, now + wait)
-        least = min(least, self.by.retry_after_most)
-        wait, until = max(wait, least), max(until, now + least)
-        self.wait, self.until, self.planned, self.is_over = wait, until, following, False
-        if self.by.sleep is None and wait > LONGEST:
-            cause = failure if isinstance(failure, BaseException) else None
-            raise OverflowError(f"zsched: the next attempt is {wait:.0f} seconds away, and the longest wait is "
-                                f"{LONGEST:.0f}") from cause
 
 
 class Tried(typing.Protocol[P, R]):
@@ -246,7 +241,8 @@ class Retrying:
 
     When the schedule is done, the last error is raised.
 
-    schedule: the text of a schedule, or a Schedule or Stepper, whose text is used
+    schedule: the text of a schedule, or a Schedule, of which only the program is read; a text is
+        compiled at once, and calls share its program
     on: the class of the errors to retry after, or a tuple of classes; any other error is raised,
         and so is one that is no Exception, such as that of a cancelled task
     input_of: returns the schedule's input of an error, a whole number from 0 to 2^64 - 1; if it
@@ -255,29 +251,29 @@ class Retrying:
         and the hooks then get the result, and the last one is returned when the schedule is done
     before_sleep: is called with the error, the number of the attempt and the seconds to sleep
     on_give_up: is called with the error and the number of the attempt, when the schedule is done or
-        the budget has no token
-    jitter: shortens each sleep by a random part of it, of at most this share, from 0 to 1
-    retry_after: returns the least seconds to sleep after an error, or None
-    retry_after_most: the longest such sleep, an hour; a service that wants a longer one gets this
+        the budget has too few tokens
+    jitter: shortens each wait by a random part of it, of at most this share, from 0 to 1, in whole
+        percent
+    retry_after: returns the least seconds to wait after an error, or None; if it returns no number
+        or raises, the error is raised with a note that says so
+    retry_after_most: the longest such wait, an hour; if a service wants a longer one, it gets this
     attempt_most: the seconds that an attempt of a coroutine may take; a longer one is cancelled, with
         asyncio.TimeoutError as its error; in a loop the attempt has to end in time, by its left()
     budget: is a Budget that other calls share; without tokens the call gives up
-    clock: returns seconds that don't fall
-    sleep: sleeps for a number of seconds, or for fewer; without one, and without jitter, no attempt
-        begins before its planned moment by the clock
+    clock: returns seconds
+    sleep: sleeps for a number of seconds, or for fewer; without one, no attempt begins before its
+        planned moment by the clock
 
-    The schedule's moments are whole milliseconds from the start of the first attempt. It is stepped
-    when an attempt ended, but at least 1 millisecond after the moment that it planned for the
-    attempt, so its Bounds hold of each run. With jitter, or a sleep that ends early, an attempt
-    that begins early counts from its planned moment on, so they hold as without. With retry_after
-    the bounds of waits are those of the schedule alone. Time and memory don't grow with the number
-    of attempts, except for a schedule with collectAll, whose output grows. Raises ScheduleFault if
-    the text is no schedule. Without `sleep`, a wait that is longer than threading.TIMEOUT_MAX
-    seconds raises OverflowError.
+    After a failed attempt, Schedule.plan returns when the next one may begin, so a run makes at most
+    the `most` attempts of its bounds, whatever the clock does. These are bounds with this jitter, and
+    with the longest least wait as `asked`. If the input or the least wait is no number, no token of
+    the budget is taken, and if the budget has too few, the schedule isn't stepped. Time and memory
+    don't grow with the number of attempts. Raises ScheduleFault if the text is no schedule, or has
+    collectAll.
 
     Many calls may use one at the same time."""
 
-    schedule: typing.Any
+    schedule: str | Schedule
     _: dataclasses.KW_ONLY
     on: type[BaseException] | tuple[type[BaseException], ...] = Exception
     input_of: collections.abc.Callable[[typing.Any], int] = lambda error: 0
@@ -292,16 +288,14 @@ class Retrying:
     clock: collections.abc.Callable[[], float] = time.monotonic
     sleep: collections.abc.Callable[[float], typing.Any] | None = None
     statistics: Statistics = dataclasses.field(init=False, repr=False, default_factory=Statistics)
-    # Begins the schedule, of which threads share the program.
-    begin: collections.abc.Callable[[], Schedule | Stepper] = dataclasses.field(init=False, repr=False)
 
     def __post_init__(self) -> None:
-        object.__setattr__(self, "schedule", self.schedule if isinstance(self.schedule, str) else self.schedule.text)
-        object.__setattr__(self, "begin", begins(self.schedule))
+        if not isinstance(self.schedule, Schedule):
+            object.__setattr__(self, "schedule", Schedule(self.schedule))
         issubclass(Exception, self.on)
-        for name, most in [("jitter", 1), ("retry_after_most", LONGEST), ("attempt_most", LONGEST)]:
-            if (given := getattr(self, name)) is not None and not 0 <= given <= most:
-                raise ValueError(f"zsched: the {name} {given} is not from 0 to {most:.0f}")
+        refuse_outside("jitter", self.jitter, 1)
+        refuse_outside("retry_after_most", self.retry_after_most, LONGEST)
+        refuse_outside("attempt_most", self.attempt_most or 0, LONGEST)
         for name in ["input_of", "retry_on_result", "before_sleep", "on_give_up", "retry_after", "clock"]:
             if _is_asynchronous(getattr(self, name)):
                 raise TypeError(f"zsched: {name} is a coroutine function, which would not be awaited")

@@ -1,37 +1,30 @@
-"""Schedules without sleep: stepped by the list of their steps, or by a state of fixed size."""
+"""Schedules without sleep, and their bounds."""
 import array
 import copy
 import ctypes
 import json
+import operator
+import random
 import typing
 
-from .calls import Durations, Reply, Told, library
-from .faults import DONE, KEEPS_LIST, Fault, refuse
+from .calls import Driver, RunBounds, Turn, library
+from .faults import DONE, refuse, refuse_outside
 
-ROOM = 256
-
-
-class Answer(typing.NamedTuple):
-    """The result of a step.
-
-    `next` is the moment at which the next attempt may begin, in milliseconds, or None if the
-    schedule is done; `output` is the text of the step's output; `visits` is the number of nodes
-    that the step visited."""
-    next: int | None
-    output: str
-    visits: int
+LARGEST = 2 ** 64 - 1
+ROOM = 255
 
 
 class Bounds(typing.NamedTuple):
     """What a schedule does for every input.
 
-    No attempt before the one of number `least` is the last, and none after `most` is made.
-    `longest` is the longest wait after the first `seen` attempts, and `total` is all waits
-    together. Each attempt ends at most `longest_run` after the begin of the first. These three are
-    in milliseconds; `most`, `total` and `longest_run` are None if there is no bound.
+    The schedule isn't done before the attempt `least`, and no attempt after `most` is made. `longest`
+    is the longest wait after the first `seen` attempts, and `total` is all waits together. Each
+    attempt ends at most `longest_run` after the begin of the first. These three are in milliseconds;
+    `most`, `total` and `longest_run` are None if there is no bound.
 
-    The bounds hold if each attempt takes as long as `bounds` was told, and no moment is above
-    999999999999999."""
+    A loop over `plan`, with attempts from 1 ms on, and its jitter and least waits, makes at most
+    `most` attempts, whatever its clock does. The other bounds hold if attempts take as long and begin
+    as late as `bounds` got it. No moment may be above 999999999999999 ms."""
     seen: int
     least: int
     most: int | None
@@ -48,171 +41,124 @@ class Bounds(typing.NamedTuple):
         return self.longest_run is not None and self.longest_run <= run
 
 
-def check(text: str) -> None:
-    """Raises ScheduleFault if the text is no schedule."""
-    data, at = text.encode(), ctypes.c_uint64()
-    refuse(text, library().zs_check(data, len(data), at), at.value)
-
-
-def _answer(text: str, call: typing.Callable[..., int]) -> Answer:
-    """Returns the Answer of a call, which is made again with more room if the output doesn't fit."""
-    number, reply, out = 0, Reply(size=ROOM), ctypes.create_string_buffer(0)
-    while reply.size > len(out):
-        out = ctypes.create_string_buffer(reply.size)
-        number = call(reply, out, len(out))
-    refuse(text, number, reply.at)
-    return Answer(None if number == DONE else reply.next, out.raw[:reply.size].decode(), reply.visits)
-
-
 class Schedule:
-    """A schedule and the steps that it has seen.
+    """A schedule, and its state after the steps so far, which has a fixed size.
 
-    That list is its whole state: `save` returns it as a text, `load` goes on from there. A step
-    takes less than a microsecond for each step before it. Two threads must not step one at the
-    same time."""
-
-    text: str
-
-    def __init__(self, text: str) -> None:
-        """Makes the schedule of a text, before its first step. Raises ScheduleFault."""
-        check(text)
-        self.text = text
-        self._seen = array.array("Q")
-
-    @property
-    def seen(self) -> list[tuple[int, int]]:
-        """The steps so far, oldest first, as a list of (moment, input)."""
-        return list(zip(self._seen[::2], self._seen[1::2]))
-
-    def after(self, moment: int, input: int = 0) -> Answer:
-        """Makes one more step, at a moment and with an input, and returns its Answer.
-
-        The moment is in whole milliseconds from any start. Raises Fault if it is below that of the
-        step before, OverflowError if a number isn't in 0 to 2^64 - 1, and TypeError if it is no
-        integer. After an error the schedule is unchanged."""
-        self._seen.extend(array.array("Q", (moment, input)))
-        try:
-            return self.answer()
-        except BaseException:
-            del self._seen[-2:]
-            raise
-
-    def answer(self) -> Answer:
-        """Returns the Answer of the last step so far. Raises Fault if there is none."""
-        data = self.text.encode()
-        # While a view is open, the list can't be moved.
-        with memoryview(self._seen):
-            seen, length = self._seen.buffer_info()
-            return _answer(self.text, lambda *reply: library().zs_answer(data, len(data), seen, length // 2, *reply))
-
-    def save(self) -> str:
-        """Returns the schedule and its steps as a text in JSON."""
-        return json.dumps({"schedule": self.text, "seen": self.seen})
-
-    @classmethod
-    def load(cls, saved: str | bytes) -> "Schedule":
-        """Returns the schedule and the steps that `save` returned.
-
-        Raises ValueError if the text isn't from there."""
-        try:
-            found = json.loads(saved)
-            schedule = cls(found["schedule"])
-            for moment, input in found["seen"]:
-                schedule._seen.extend(array.array("Q", (moment, input)))
-        except (KeyError, TypeError, OverflowError, AttributeError) as fault:
-            raise ValueError(f"not a saved schedule: {fault!r}") from None
-        if schedule._seen:
-            schedule.answer()
-        return schedule
-
-
-class Stepper:
-    """A schedule with a state of fixed size in place of its steps.
-
-    So a step takes no longer after many steps than after one. The text is read once. `save`
-    returns the state as a text, `load` goes on from there. Two threads must not step one at the
-    same time."""
+    So a step takes no longer after many steps than after one. `save` returns the state as a text, and
+    `load` continues from there. A copy shares the program, into which the text is compiled once, and
+    has a separate state. Threads may make copies at once, but not steps of one schedule."""
 
     text: str
 
     def __init__(self, text: str) -> None:
-        """Makes the schedule of a text, before its first step.
-
-        Raises ScheduleFault, and Fault if it has collectAll, whose list has no fixed size."""
-        data, size, state_size, at = text.encode(), ctypes.c_uint64(), ctypes.c_uint64(), ctypes.c_uint64()
+        """Compiles a text, and begins before its first step. Raises ScheduleFault if the text is no schedule, or has
+        collectAll (number 6)."""
+        data, size, state_size, at = text.encode(), ctypes.c_size_t(), ctypes.c_size_t(), ctypes.c_uint64()
         refuse(text, library().zs_program_size(data, len(data), size, state_size, at), at.value)
         program, state = array.array("Q", bytes(8 * size.value)), array.array("Q", bytes(8 * state_size.value))
         refuse(text, library().zs_compile(data, len(data), *program.buffer_info(), at), at.value)
-        refuse(text, library().zs_program_begin(*program.buffer_info(), *state.buffer_info()), 0)
-        self.text, self._program, self._state = text, program, state
+        refuse(text, library().zs_program_begin(*program.buffer_info(), *state.buffer_info()))
+        # No array changes: a step makes a new state.
+        self.text, self._program, self._first, self._state = text, program, state, state
+
+    def __repr__(self) -> str:
+        return f"Schedule({self.text!r})"
 
     @property
     def state(self) -> list[int]:
-        """The words of the state.
-
-        Their number depends on the text alone. The first identifies the schedule."""
+        """The words of the state. Their number depends only on the text. The first identifies the schedule."""
         return list(self._state)
 
-    def after(self, moment: int, input: int = 0) -> Answer:
-        """Makes one more step, at a moment and with an input, and returns its Answer.
+    def begin(self) -> "Schedule":
+        """Returns a schedule of the same program before its first step."""
+        begun = copy.copy(self)
+        begun._state = self._first
+        return begun
 
-        The moment is in whole milliseconds from any start. Raises Fault if it is below that of the
-        step before, OverflowError if a number isn't in 0 to 2^64 - 1, and TypeError if it is no
-        integer. After an error the schedule is unchanged."""
-        step, state = array.array("Q", (moment, input)), self._state
+    def plan(self, began: int, ended: int, input: int = 0, *, least: int = 0, longest: int = 3600_000,
+             jitter: float = 0.0, draw: int | None = None) -> int | None:
+        """Makes a step at the end of a failed attempt of a loop. Returns when the next attempt may begin, or None if
+        the loop gives up.
 
-        def call(*reply: typing.Any) -> int:
-            nonlocal state
-            state = self._state[:]
-            return int(library().zs_program_step(*self._program.buffer_info(), *state.buffer_info(), *step, *reply))
-        answer = _answer(self.text, call)
+        `began`, `ended` and this moment are nanoseconds from the begin of the first attempt, by any clock: below 0
+        they count as 0, above 2^64 - 1 as that, and a clock that fell counts as one that stood still. `input` is the
+        error's code. `least` is the least wait that the service asked for, in milliseconds, of which `longest` are
+        honoured. `jitter` is the share of the wait that may be taken off, from 0 to 1, in whole percent. `draw`, of 32
+        bits, is how much of that is taken off; it is random if it is None.
+
+        Raises OverflowError if a number isn't from 0 to 2^64 - 1, TypeError if it is no integer, and ValueError for a
+        jitter beyond its range. After an error the schedule is unchanged."""
+        refuse_outside("jitter", jitter, 1)
+        moments = [min(max(0, operator.index(it)), LARGEST) for it in (began, ended)]
+        numbers = array.array("Q", [*moments, input, least, longest])
+        if draw is None:
+            draw = random.getrandbits(32) if jitter else 0
+        turn, begin = Turn(*numbers, round(100 * jitter), *array.array("I", [draw])), ctypes.c_uint64()
+        return self._continued(library().zs_plan, begin, turn, begin)
+
+    def after(self, moment: int, input: int = 0) -> int | None:
+        """Makes a step at a moment of the caller's clock. Returns the next moment, or None if the schedule is done.
+
+        Moments are milliseconds from any start. Raises Fault if the moment is below that of the last step,
+        OverflowError if a number isn't from 0 to 2^64 - 1, and TypeError if it is no integer. After an error the
+        schedule is unchanged."""
+        numbers, following = array.array("Q", (moment, input)), ctypes.c_uint64()
+        return self._continued(library().zs_program_step, following, *numbers, following, ctypes.c_uint64())
+
+    def _continued(self, call: typing.Callable[..., int], following: ctypes.c_uint64,
+                   *arguments: typing.Any) -> int | None:
+        """Makes a step by a call, which sets `following`. Returns that, or None if the schedule is done."""
+        state = self._state[:]
+        number = call(*self._program.buffer_info(), *state.buffer_info(), *arguments)
+        refuse(self.text, number)
         self._state = state
-        return answer
+        return None if number == DONE else following.value
+
+    def output(self) -> str:
+        """Returns the text of the last step's output. Raises Fault before the first step."""
+        size, out = ctypes.c_size_t(ROOM), ctypes.create_string_buffer(0)
+        while size.value >= len(out):
+            out = ctypes.create_string_buffer(size.value + 1)
+            words = *self._program.buffer_info(), *self._state.buffer_info()
+            refuse(self.text, library().zs_output(*words, out, len(out), size))
+        return out.value.decode()
 
     def save(self) -> str:
         """Returns the schedule and its state as a text in JSON."""
         return json.dumps({"schedule": self.text, "state": self.state})
 
     @classmethod
-    def load(cls, saved: str | bytes) -> "Stepper":
+    def load(cls, saved: str | bytes) -> "Schedule":
         """Returns the schedule and the state that `save` returned.
 
-        Raises ValueError if the text can't be from there, for example with another schedule's
-        state. Nothing is promised for changed words after the first."""
+        Raises ValueError if the text can't be from there, for example with another schedule's state. Nothing is
+        promised for changed words after the first."""
         try:
             found = json.loads(saved)
-            stepper, words = cls(found["schedule"]), array.array("Q", found["state"])
+            schedule, words = cls(found["schedule"]), array.array("Q", found["state"])
         except (KeyError, TypeError, OverflowError, AttributeError) as fault:
             raise ValueError(f"not a saved schedule: {fault!r}") from None
-        if len(words) != len(stepper._state):
-            raise ValueError(f"not a saved schedule: {len(words)} words in place of {len(stepper._state)}")
-        if words[0] != stepper._state[0]:
+        if len(words) != len(schedule._first) or words[0] != schedule._first[0]:
             raise ValueError("not a saved schedule: the state of another schedule")
-        stepper._state = words
-        return stepper
+        schedule._state = words
+        return schedule
 
 
-def begins(text: str) -> typing.Callable[[], Schedule | Stepper]:
-    """Returns what begins a text's schedule: a Stepper, whose program they share, or a Schedule for collectAll."""
-    try:
-        first = Stepper(text)
-    except Fault as fault:
-        if fault.number != KEEPS_LIST:
-            raise
-        return lambda: Schedule(text)
-    return lambda: copy.copy(first)
+def bounds(schedule: str | Schedule, steps: int, attempt: tuple[int, int | None] = (1, None), *, jitter: float = 0.0,
+           asked: int = 0, late: int = 0) -> Bounds:
+    """Returns the Bounds of a schedule before its first step, of which at most the first `steps` attempts are examined.
 
+    An attempt takes as many milliseconds as `attempt` says, at least and at most, or None for no most. Jitter takes a
+    share of at most `jitter` off each wait, from 0 to 1, in whole percent. A service asks for least waits of at most
+    `asked` milliseconds. Attempts begin at most `late` milliseconds after their moment; 2^64 - 1 is any lateness.
 
-def bounds(schedule: str | Schedule | Stepper, steps: int, attempt: tuple[int, int | None] = (1, None)) -> Bounds:
-    """Returns the Bounds of a schedule, of which at most the first `steps` attempts are examined.
-
-    `attempt` is the least and the most milliseconds that an attempt takes, or None for no most. For
-    a Schedule or Stepper these are the bounds of its text, before its first step. Raises
-    ScheduleFault, Fault if no attempt takes so long, OverflowError if a number isn't in 0 to
-    2^64 - 1, and TypeError if it is no integer."""
+    Raises ScheduleFault if the text is no schedule, Fault if no driver does this, ValueError for a jitter beyond its
+    range, OverflowError if a number isn't from 0 to 2^64 - 1, and TypeError if it is no integer."""
+    refuse_outside("jitter", jitter, 1)
     text, (least, most) = schedule if isinstance(schedule, str) else schedule.text, attempt
-    numbers = array.array("Q", [steps, least, most is not None, 0 if most is None else most])
-    data, reply, at = text.encode(), Told(), ctypes.c_uint64()
-    refuse(text, library().zs_bounds(data, len(data), Durations(*numbers[1:]), numbers[0], reply, at), at.value)
-    return Bounds(reply.seen, reply.least, reply.most if reply.has_most else None, reply.longest,
-                  reply.total if reply.has_total else None, reply.longest_run if reply.has_longest_run else None)
+    steps, *numbers = array.array("Q", [steps, least, most is not None, 0 if most is None else most,
+                                        100 - round(100 * jitter), 100, asked, late])
+    data, found, at = text.encode(), RunBounds(), ctypes.c_uint64()
+    refuse(text, library().zs_bounds(data, len(data), Driver(*numbers), steps, found, at), at.value)
+    return Bounds(found.seen, found.least, found.most if found.has_most else None, found.longest_ms,
+                  found.total_ms if found.has_total else None, found.longest_run_ms if found.has_longest_run else None)
