@@ -1,8 +1,6 @@
-"""The Rattle toolchain: which crates crates.txt lists, how one is checked, and the libraries that `rt ci` proved and
-left in the checkout. build/make-library reads those below zsched_c and never writes them."""
+"""The Rattle toolchain, and which crates crates.txt lists."""
 import dataclasses
 import fcntl
-import hashlib
 import os
 import pathlib
 import shutil
@@ -12,7 +10,6 @@ import sys
 TOP = pathlib.Path(__file__).resolve().parent.parent
 # The crate that is the library for C.
 LIBRARY = "zsched_c"
-NOTED = TOP / "crates" / LIBRARY / "out" / "libraries"
 
 
 class Unusable(Exception):
@@ -27,11 +24,6 @@ class Crate:
     libraries: list
     is_static: bool = False
     below: list = dataclasses.field(default_factory=list)
-
-    @property
-    def rlib(self):
-        """The folder of its library."""
-        return self.folder / "out" / "rlib" / f"{self.name}.rlib"
 
 
 def crates_of(top):
@@ -62,18 +54,6 @@ class Toolchain:
             return subprocess.run([str(it) for it in words], cwd=folder, stdin=subprocess.DEVNULL, stdout=out,
                                   stderr=subprocess.STDOUT, check=False).returncode
 
-    def crate_words(self, crate):
-        """The words that name a crate in its folder, and the libraries below it as they are built."""
-        root = "src/main.rt" if (crate.folder / "src" / "main.rt").exists() else "src/lib.rt"
-        words = ["--crate-name", crate.name, root, *["--crate-type", "staticlib"] * crate.is_static]
-        named = {it.name: it.rlib for it in crate.below}
-        for name in ["std", *crate.libraries]:
-            words += ["--extern", f"{name}={named.get(name, self.kit / 'rlibs' / f'{name}.rlib')}"]
-        for folder in [self.kit / "rlibs", *[it.rlib.parent for it in crate.below]]:
-            words += ["-L", f"dependency={folder}"]
-        words += ["--antt-project", self.kit / "rattle" / "logic" / "antt-project.json"]
-        return [*words, "--logic-built", self.kit / "logic_built"]
-
 
 def last_line(log):
     """The last line of a log."""
@@ -102,28 +82,6 @@ def sources_sum(crate=LIBRARY):
     """The checksum of everything that a crate's program or library is proved and built from."""
     words = [TOP / "build" / "sources-sum", crate]
     return subprocess.run(words, capture_output=True, text=True, check=True).stdout.strip()
-
-
-def left(total):
-    """A checksum of the sources' checksum and of the libraries, or None if one of them is missing. A library's file
-    `format` has the checksum of its other files."""
-    formats = [it.rlib / "format" for it in crates_of(TOP)[LIBRARY].below]
-    if not all(it.exists() for it in formats):
-        return None
-    return hashlib.sha256(b"".join([total.encode(), *[it.read_bytes() for it in formats]])).hexdigest()
-
-
-def note(total):
-    """Notes the libraries that an `rt ci` over the sources with this checksum left, once it passed."""
-    found = left(total)
-    if found and sources_sum() == total:
-        NOTED.parent.mkdir(parents=True, exist_ok=True)
-        NOTED.write_text(found)
-
-
-def are_left(total):
-    """Whether the libraries are those that the last noted `rt ci` left, over the sources with this checksum."""
-    return NOTED.exists() and NOTED.read_text() == left(total)
 
 
 def stamp():
