@@ -21,7 +21,7 @@
  *     is 0, the pointer may be NULL. A pointer with no number beside it is never NULL.
  *   - What a call writes overlaps nothing else that is passed to it, and no other thread writes to any of it during the call.
  *   - No call comes from a signal handler, or from a forked child of a process with threads. 64 KiB of stack are free (the
- *     deepest schedule took 54), for zs_bounds 192 KiB (it took 115).
+ *     deepest schedule took 55), for zs_bounds 192 KiB (it took 164).
  *
  * Any number of threads may call at once: calls share nothing but malloc, realloc and free. Each call frees what it
  * allocated. A name that ends with _ms has whole milliseconds, and one with _ns nanoseconds, both unsigned, of 64 bits.
@@ -142,7 +142,8 @@ enum zs_status zs_check(const char *text, size_t text_len, uint64_t *ZS_ALONE at
  * zs_check returns for the text, with its place, and *bounds is unchanged. So a service can reject a policy that never gives
  * up, or whose calls may outlast a deadline.
  *
- * The bounds hold for all steps of which no moment is above 999999999999999 ms. longest_run_ms needs a most_ms.
+ * The bounds hold for all steps of which no moment is above 999999999999999 ms; but zs_plan gives up, before `least` too, where
+ * a begin would be above 18446744073709551615 ns, which is 584 years. longest_run_ms needs a most_ms.
  * The time grows with the steps and with the schedule: 1000 steps of one with 400 leaves took 56 milliseconds. */
 ZS_CALL ZS_POINTERS((3, 5, 6))
 enum zs_status zs_bounds(const char *text, size_t text_len, const zs_driver *driver, uint64_t steps,
@@ -166,8 +167,8 @@ ZS_CALL
 enum zs_status zs_program_begin(const uint64_t *program, size_t program_len, uint64_t *ZS_ALONE state, size_t state_len);
 
 /* Steps a program at the end of a loop's attempt, and plans the next one, over a state that zs_program_begin wrote and zs_plan
- * continued: ZS_OK, and the next attempt may begin at *begin_ns, counted as in *turn; or ZS_DONE, and the loop gives up, because
- * the schedule is done, or because *begin_ns would be above 18446744073709551615. Otherwise the first that applies of
+ * continued: ZS_OK, and the next attempt may begin at *begin_ns, counted as in *turn; or ZS_DONE, and the loop gives up,
+ * because the schedule is done, or because *begin_ns would be above 18446744073709551615. Otherwise the first that applies of
  * ZS_OTHER_SIZE, ZS_NO_PROGRAM, ZS_NO_ROOM, ZS_OTHER_STATE and ZS_FALLS, and the words are unchanged; ZS_FALLS comes only after
  * ZS_DONE or a zs_program_step. *begin_ns is 0 unless ZS_OK is returned.
  *
