@@ -1,7 +1,7 @@
 //! What a schedule does for every input, as C reads it.
 
 ghost use Rattle.std.specs.Prelude.{◌≡◌, IfOk, IfErr};
-ghost use Rattle.zs_c.specs.Bounded.{IsBounded, IsBoundsRefusal, bounds_told, bound_told, driver_of, has_bound, is_possible};
+ghost use Rattle.zs_c.specs.Bounded.{IsBounded, IsBoundsRefusal, bounds_told, driver_of, is_possible};
 
 use crate::reading::schedule_in;
 use crate::refusal::Refusal;
@@ -49,14 +49,9 @@ impl GivenDriver {
     fn driver(&self) -> Driver
         ensures value { result ≡ driver_of self.now }
     {
-        let most = if self.has_most == 0 {
-            None
-        } else {
-            Some(self.most)
-        };
         Driver {
             least: self.least,
-            most,
+            most: (self.has_most != 0).then_some(self.most),
             waits: Waits {
                 least_percent: self.least_percent,
                 most_percent: self.most_percent,
@@ -102,13 +97,13 @@ impl BoundsTold {
             size: BOUNDS_SIZE,
             seen: bounds.seen,
             least: bounds.least,
-            has_most: has_bound(bounds.most),
-            most: bound_told(bounds.most),
+            has_most: u64::from(bounds.most.is_some()),
+            most: bounds.most.unwrap_or(0),
             longest: bounds.longest,
-            has_total: has_bound(bounds.total),
-            total: bound_told(bounds.total),
-            has_longest_run: has_bound(bounds.longest_run),
-            longest_run: bound_told(bounds.longest_run),
+            has_total: u64::from(bounds.total.is_some()),
+            total: bounds.total.unwrap_or(0),
+            has_longest_run: u64::from(bounds.longest_run.is_some()),
+            longest_run: bounds.longest_run.unwrap_or(0),
         }
     }
 }
@@ -133,24 +128,4 @@ pub(crate) fn bounds_in(
     let checked = schedule_in(alloc, text)?;
     let bounds = zs_bounds::bounds(alloc, &checked, given.driver(), steps)?;
     Ok(BoundsTold::of(bounds))
-}
-
-// Returns 1 if there is a bound, else 0.
-fn has_bound(bound: Option<u64>) -> u64
-    ensures value { result ≡ has_bound bound }
-{
-    match bound {
-        None => 0,
-        Some(_) => 1,
-    }
-}
-
-// Returns a bound, or 0 if there is none.
-fn bound_told(bound: Option<u64>) -> u64
-    ensures value { result ≡ bound_told bound }
-{
-    match bound {
-        None => 0,
-        Some(number) => number,
-    }
 }
