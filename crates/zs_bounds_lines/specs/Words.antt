@@ -1,18 +1,16 @@
 -- The request that the words of a command line are.
-use Rattle.std.specs.Prelude.{◌≡◌, ℕ, ◌+◌, ◌*◌, ◌-◌, List, [], ◌∷◌, length, take, drop, codes}
+use Rattle.std.specs.Prelude.{◌≡◌, ℕ, ◌+◌, ◌*◌, ◌-◌, List, [], ◌∷◌, take, drop, codes}
 use Rattle.std.specs.Prelude.{bytes_eq, nat_le, nat_lt, ◌==◌, ◌&&◌, Bool, true, false}
 use Rattle.std.specs.Prelude.{if◌then◌else◌, Option, Some, None, option_and_then, Result, Ok, Err}
-use Rattle.std.specs.Io.KnownBytes.{Appends}
 use Rattle.zs_term.specs.Saturating.{max_moment}
 use Rattle.zs_bounds.specs.Driven.{exact_driver}
-use Rattle.zs_bounds.specs.declared.driver.Driver.{Driver}
 use Rattle.zs_bounds.specs.declared.waits.Waits.{Waits}
 use Rattle.zs_run.specs.Headline.{Reading, Writing}
 use Rattle.zs_lines.specs.Numbers.{digits_from, number_of}
+use Rattle.zs_lines.specs.Streams.{WroteText}
 use Rattle.zs_bounds_lines.specs.Ending.{Ends}
 use Rattle.zs_bounds_lines.specs.declared.fault.BoundsFault.{BoundsFault}
-use Rattle.zs_bounds_lines.specs.declared.fault.BoundsFault.TheVariants.{Read, Line, Memory, Write}
-use Rattle.zs_bounds_lines.specs.declared.fault.BoundsFault.TheVariants.{Words}
+use Rattle.zs_bounds_lines.specs.declared.fault.BoundsFault.TheVariants.{Write, Words}
 use Rattle.zs_bounds_lines.specs.declared.fault.OptionFault.{OptionFault}
 use Rattle.zs_bounds_lines.specs.declared.fault.OptionFault.TheVariants.{Unknown, Steps, Attempt}
 use Rattle.zs_bounds_lines.specs.declared.fault.OptionFault.TheVariants.{Wait, Late, Asked}
@@ -161,21 +159,11 @@ request_from options (name ∷ []) =
 request_from options (name ∷ (value ∷ words)) =
     unless_alone name (and_then (with_option name value options) (λ new. request_from new words))
 
--- This text was written and flushed, or its first bytes were.
-abbrev pub WroteText : List ℕ → Result (Unit {0}) BoundsFault → Writing → Type 0
-WroteText text (Ok done) w = (w.failed ≡ false) × Appends w.before w.taken text × (w.flushed ≡ true)
-WroteText text (Err Write) w =
-    (w.failed ≡ true) × ((sent : ℕ) × Appends w.before w.taken (take sent text))
-WroteText text (Err Read) w = ⊥
-WroteText text (Err Memory) w = ⊥
-WroteText text (Err (Line line fault)) w = ⊥
-WroteText text (Err (Words fault)) w = ⊥
-
 -- How the program ends, by its request.
 abbrev pub ProgramEnds : Result Request OptionFault
     → Result (Unit {0}) BoundsFault → Reading → Writing → Type 0 → Type 0
-ProgramEnds (Ok Help) result r w Untouched = WroteText HELP.now result w
-ProgramEnds (Ok Version) result r w Untouched = WroteText VERSION.now result w
+ProgramEnds (Ok Help) result r w Untouched = WroteText (λ sent. Write) HELP.now result w
+ProgramEnds (Ok Version) result r w Untouched = WroteText (λ sent. Write) VERSION.now result w
 ProgramEnds (Ok (Run options)) result r w Untouched = Ends options result r w Untouched
 ProgramEnds (Err fault) result r w Untouched = (result ≡ Err (Words fault)) × Untouched
 

@@ -1,7 +1,7 @@
 //! The program, by the words of its command line.
 ghost use Rattle.std.specs.Prelude.{◌≡◌, false, map, string_bytes};
-ghost use Rattle.zs_lines.specs.Streams.{ByWriter, reading, writing};
-ghost use Rattle.zs_bounds_lines.specs.Words.{WordsEnd, WroteText, reads_lines};
+ghost use Rattle.zs_lines.specs.Streams.{ByWriter, reading};
+ghost use Rattle.zs_bounds_lines.specs.Words.{WordsEnd, reads_lines};
 ghost use Rattle.zs_bounds_lines.specs.Words.{request_from, usual_options};
 
 use crate::fault::{BoundsFault, OptionFault};
@@ -49,18 +49,6 @@ pub fn reads_lines(words: &[String]) -> bool
     matches!(request_of(words), Ok(Request::Run(_)))
 }
 
-// Writes a text and flushes.
-fn print<W: Drain>(writer: &mut W, text: &str) -> Result<(), BoundsFault>
-    requires clear { W.mark writer.old ≡ false }
-    ensures text { WroteText text.now result
-        (writing W.contents W.mark W.flushed writer.old writer.new) }
-{
-    match write_all(writer, text.as_bytes()) {
-        Ok(()) => Ok(()),
-        Err(_) => Err(BoundsFault::Write),
-    }
-}
-
 /// Does what the words after the program's name say. At success it wrote and flushed the bounds of
 /// the lines, or the text of an option, and nothing else. Wrong words write nothing.
 pub fn run_words<R: Source, W: Drain>(
@@ -75,10 +63,11 @@ pub fn run_words<R: Source, W: Drain>(
     ensures ends { ByWriter W.contents W.mark W.flushed writer.old writer.new (WordsEnd
         (map string_bytes words.now) result (reading R.remaining R.mark reader.old reader.new)) }
 {
-    match request_of(words) {
-        Ok(Request::Run(options)) => run_bounds(alloc, options, reader, writer),
-        Ok(Request::Help) => print(writer, HELP),
-        Ok(Request::Version) => print(writer, VERSION),
-        Err(fault) => Err(BoundsFault::Words(fault)),
-    }
+    let text = match request_of(words) {
+        Ok(Request::Run(options)) => return run_bounds(alloc, options, reader, writer),
+        Ok(Request::Help) => HELP,
+        Ok(Request::Version) => VERSION,
+        Err(fault) => return Err(BoundsFault::Words(fault)),
+    };
+    write_all(writer, text.as_bytes()).map_err(|_| BoundsFault::Write)
 }

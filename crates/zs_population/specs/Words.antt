@@ -1,13 +1,11 @@
 -- The request that the words of a command line are, and how the program ends by it.
-use Rattle.std.specs.Prelude.{◌≡◌, ◌≤◌, ℕ, ◌-◌, List, [], ◌∷◌, length, map, take, drop, codes}
-use Rattle.std.specs.Prelude.{String, string_bytes, ⊤}
-use Rattle.std.specs.Prelude.{bytes_eq, nat_le, ◌==◌, ◌&&◌, true, false}
+use Rattle.std.specs.Prelude.{◌≡◌, ℕ, ◌-◌, List, [], ◌∷◌, map, drop, codes, String, string_bytes, ⊤}
+use Rattle.std.specs.Prelude.{bytes_eq, nat_le, ◌==◌, ◌&&◌, true}
 use Rattle.std.specs.Prelude.{if◌then◌else◌, Option, Some, None, option_and_then, Result, Ok, Err}
-use Rattle.std.specs.Io.KnownBytes.{Appends}
 use Rattle.std.specs.Global.{Global}
-use Rattle.zs_term.specs.Saturating.{max_moment}
 use Rattle.zs_run.specs.Headline.{Reading, Writing}
 use Rattle.zs_lines.specs.Numbers.{digits_from, number_of}
+use Rattle.zs_lines.specs.Streams.{WroteText}
 use Rattle.zs_population.specs.Ending.{Ends}
 use Rattle.zs_population.specs.Joining.{JoinEnds}
 use Rattle.zs_population.specs.Population.{FitsPopulation, all_jobs, max_population}
@@ -15,9 +13,7 @@ use Rattle.zs_population.specs.declared.range.JobRange.{JobRange}
 use Rattle.zs_population.specs.declared.fault.OptionFault.{OptionFault}
 use Rattle.zs_population.specs.declared.fault.OptionFault.TheVariants.{Unknown, Jobs, Check}
 use Rattle.zs_population.specs.declared.fault.PopulationFault.{PopulationFault}
-use Rattle.zs_population.specs.declared.fault.PopulationFault.TheVariants.{Read, Line, Engine}
-use Rattle.zs_population.specs.declared.fault.PopulationFault.TheVariants.{Write, Report}
-use Rattle.zs_population.specs.declared.fault.PopulationFault.TheVariants.{Missing, Words}
+use Rattle.zs_population.specs.declared.fault.PopulationFault.TheVariants.{Write, Words}
 use Rattle.zs_population.specs.declared.program.TheConstants.{HELP, VERSION}
 use Rattle.zs_population.specs.declared.words.Request.{Request}
 use Rattle.zs_population.specs.declared.words.Request.TheVariants.{Help, Version, Run, Join}
@@ -78,23 +74,11 @@ FitsRequest Version = ⊤
 FitsRequest (Run range) = FitsPopulation range
 FitsRequest Join = ⊤
 
--- This text was written and flushed, or its first `sent` bytes were.
-abbrev pub WroteText : List ℕ → Result (Unit {0}) PopulationFault → Writing → Type 0
-WroteText text (Ok done) w = (w.failed ≡ false) × Appends w.before w.taken text × (w.flushed ≡ true)
-WroteText text (Err Read) w = ⊥
-WroteText text (Err (Line line fault)) w = ⊥
-WroteText text (Err (Engine fault)) w = ⊥
-WroteText text (Err (Write sent)) w = (w.failed ≡ true) × (sent ≤ length text)
-    × Appends w.before w.taken (take sent text)
-WroteText text (Err (Report number fault)) w = ⊥
-WroteText text (Err (Missing next)) w = ⊥
-WroteText text (Err (Words fault)) w = ⊥
-
 -- How the program ends, by its request. Reports are joined if their bytes are known.
 abbrev pub ProgramEnds : Result Request OptionFault → List (Option (List ℕ))
     → Result (Unit {0}) PopulationFault → Reading → Writing → Type 0 → Type 0
-ProgramEnds (Ok Help) reports result r w Untouched = WroteText HELP.now result w
-ProgramEnds (Ok Version) reports result r w Untouched = WroteText VERSION.now result w
+ProgramEnds (Ok Help) reports result r w Untouched = WroteText Write HELP.now result w
+ProgramEnds (Ok Version) reports result r w Untouched = WroteText Write VERSION.now result w
 ProgramEnds (Ok (Run range)) reports result r w Untouched = Ends range result r w Untouched
 ProgramEnds (Ok Join) reports result r w Untouched = JoinEnds reports result r w Untouched
 ProgramEnds (Err fault) reports result r w Untouched = (result ≡ Err (Words fault)) × Untouched

@@ -1,7 +1,7 @@
 //! The program, by the words of its command line.
 ghost use Rattle.std.specs.Prelude.{◌≡◌, false, map, string_bytes};
-ghost use Rattle.zs_lines.specs.Streams.{ByWriter, reading, writing};
-ghost use Rattle.zs_population.specs.Words.{WordsEnd, WroteText};
+ghost use Rattle.zs_lines.specs.Streams.{ByWriter, reading};
+ghost use Rattle.zs_population.specs.Words.{WordsEnd};
 
 use crate::fault::PopulationFault;
 use crate::joining::{Files, join_reports};
@@ -27,18 +27,6 @@ Writes the report of all jobs, as of one plan.
   --version         prints the version
 ";
 
-// Writes a text and flushes.
-fn print<W: Drain>(writer: &mut W, text: &str) -> Result<(), PopulationFault>
-    requires clear { W.mark writer.old ≡ false }
-    ensures text { WroteText text.now result
-        (writing W.contents W.mark W.flushed writer.old writer.new) }
-{
-    match write_all(writer, text.as_bytes()) {
-        Ok(()) => Ok(()),
-        Err(sent) => Err(PopulationFault::Write { sent: sent as u128 }),
-    }
-}
-
 /// Does what the words after the program's name say: without a word, it runs all jobs. The report
 /// of a range of jobs is followed by its trailer. `--check` joins reports of ranges that follow
 /// each other up to the last job, each with a trailer of this population. A failed write has
@@ -58,11 +46,12 @@ pub fn run_words<T: Threads + Wait + Sync, G: Gate, F: Files, R: Source, W: Drai
     ensures ends { ByWriter W.contents W.mark W.flushed writer.old writer.new (WordsEnd result
         (F.contents files.now) words.now (reading R.remaining R.mark reader.old reader.new)) }
 {
-    match request_of(words) {
-        Ok(Request::Run(range)) => run_population(rt, alloc, gate, range, reader, writer),
-        Ok(Request::Join) => join_reports(alloc, files, &words[1..], reader, writer),
-        Ok(Request::Help) => print(writer, HELP),
-        Ok(Request::Version) => print(writer, VERSION),
-        Err(fault) => Err(PopulationFault::Words(fault)),
-    }
+    let text = match request_of(words) {
+        Ok(Request::Run(range)) => return run_population(rt, alloc, gate, range, reader, writer),
+        Ok(Request::Join) => return join_reports(alloc, files, &words[1..], reader, writer),
+        Ok(Request::Help) => HELP,
+        Ok(Request::Version) => VERSION,
+        Err(fault) => return Err(PopulationFault::Words(fault)),
+    };
+    write_all(writer, text.as_bytes()).map_err(|sent| PopulationFault::Write { sent: sent as u128 })
 }
