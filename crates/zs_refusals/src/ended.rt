@@ -45,7 +45,7 @@ impl fmt::Write for Name {
 
 /// Why a call failed. It has no `Debug`, so that every fault, which has it, converts to it.
 #[derive(Clone, Copy, Drop)]
-pub enum Ended {
+pub enum CallFault {
     /// An allocation failed. The call returned this fault, and satisfied its contract.
     Refused(Name),
     /// An allocation of a poll failed, and its task and its message are broken.
@@ -55,26 +55,26 @@ pub enum Ended {
 }
 
 /// The result of the calls of a case: the text that they made, or an empty one.
-pub type Answer = Result<String, Ended>;
+pub type Answer = Result<String, CallFault>;
 
-impl<E: Debug + Drop> From<E> for Ended {
-    fn from(fault: E) -> Ended {
+impl<E: Debug + Drop> From<E> for CallFault {
+    fn from(fault: E) -> CallFault {
         let mut name = Name {
             bytes: [0; 24],
             length: 0,
         };
         match write!(name, "{fault:?}") {
-            Ok(()) => Ended::Refused(name),
-            Err(_) => Ended::Wrong("a fault with a longer name"),
+            Ok(()) => CallFault::Refused(name),
+            Err(_) => CallFault::Wrong("a fault with a longer name"),
         }
     }
 }
 
 /// Fails unless the findings are right.
-pub fn right_if(is_right: bool, what: &'static str) -> Result<(), Ended> {
+pub fn right_if(is_right: bool, what: &'static str) -> Result<(), CallFault> {
     if is_right {
         Ok(())
     } else {
-        Err(Ended::Wrong(what))
+        Err(CallFault::Wrong(what))
     }
 }

@@ -15,7 +15,7 @@ mod tasks;
 mod terms;
 mod timers;
 
-use ended::{Answer, Case, Ended, SET_UP};
+use ended::{Answer, CallFault, Case, SET_UP};
 use std::alloc::{Alloc, Global};
 use std::io;
 use std::io::Read;
@@ -43,7 +43,7 @@ fn make<R: Alloc<A = Global> + RandomSource + Threads + Wait + Sync>(
         "round" => rounds::one_round(rt, case),
         "jobs" => runs::run_jobs_of(rt, case),
         "run" => runs::run_plan(rt, case),
-        _ => Err(Ended::Wrong("no such case")),
+        _ => Err(CallFault::Wrong("no such case")),
     }
 }
 
@@ -62,8 +62,8 @@ fn main(rt: HostRuntime) -> io::Result<()> {
     let call = case.call;
     match answer {
         Ok(made) => println!(rt; "ok\n{made}"),
-        Err(Ended::Refused(fault)) => println!(rt; "{call}: {}", fault.as_str()),
-        Err(Ended::Broken) => println!(rt; "{call}: broken"),
-        Err(Ended::Wrong(what)) => println!(rt; "{call}: wrong: {what}"),
+        Err(CallFault::Refused(fault)) => println!(rt; "{call}: {}", fault.as_str()),
+        Err(CallFault::Broken) => println!(rt; "{call}: broken"),
+        Err(CallFault::Wrong(what)) => println!(rt; "{call}: wrong: {what}"),
     }
 }

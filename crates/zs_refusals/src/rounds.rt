@@ -3,7 +3,7 @@ ghost use Rattle.std.specs.Prelude.{◌≡◌, All, IfOk, length, map};
 ghost use Rattle.std.specs.List.Sorted.{IsStrictlyIncreasing};
 ghost use Rattle.zs_pool.specs.Rounds.{IsPollable};
 
-use crate::ended::{Answer, Case, Ended, SET_UP, right_if};
+use crate::ended::{Answer, CallFault, Case, SET_UP, right_if};
 use crate::tasks::job_of;
 use std::alloc::Global;
 use std::sync::Wait;
@@ -14,7 +14,7 @@ use zs_pool::{Batch, Cut, OpenGate, Tally, poll_batch, round};
 const TASKS: u64 = 2;
 
 // Makes two tasks of the plan's job, due at 0.
-fn due_tasks(alloc: Global, plan: &str) -> Result<Vec<Task>, Ended>
+fn due_tasks(alloc: Global, plan: &str) -> Result<Vec<Task>, CallFault>
     ensures few { IfOk result (λ tasks. length tasks.items ≡ 2) }
     ensures rising { IfOk result (λ tasks.
         IsStrictlyIncreasing (map (λ task. task.number) tasks.items)) }
@@ -25,7 +25,7 @@ fn due_tasks(alloc: Global, plan: &str) -> Result<Vec<Task>, Ended>
     Ok(Vec::from_array(alloc, [first, second])?)
 }
 
-fn due_task(alloc: Global, plan: &str, number: u64) -> Result<Task, Ended>
+fn due_task(alloc: Global, plan: &str, number: u64) -> Result<Task, CallFault>
     ensures number { IfOk result (λ task. task.number ≡ number) }
     ensures pollable { IfOk result (IsPollable 0) }
 {
@@ -33,7 +33,7 @@ fn due_task(alloc: Global, plan: &str, number: u64) -> Result<Task, Ended>
     let task = Task::new(alloc, number, job)?;
     match task.due() {
         Some(0) if !task.broken() => Ok(task),
-        _ => Err(Ended::Wrong("a new task that isn't due")),
+        _ => Err(CallFault::Wrong("a new task that isn't due")),
     }
 }
 
@@ -54,7 +54,7 @@ pub fn poll_one_batch<R>(rt: &R, case: &mut Case<'_>) -> Answer {
 }
 
 // Each of two tasks was polled once or is broken, and the message says whether one is broken.
-fn are_polled(tasks: &[Task], is_told_broken: bool) -> Result<(), Ended> {
+fn are_polled(tasks: &[Task], is_told_broken: bool) -> Result<(), CallFault> {
     let mut is_broken = false;
     for (place, task) in tasks.iter().enumerate() {
         let wanted = if task.broken() { 0 } else { 1 };
@@ -65,7 +65,7 @@ fn are_polled(tasks: &[Task], is_told_broken: bool) -> Result<(), Ended> {
     let is_right = tasks.len() == 2 && is_broken == is_told_broken;
     right_if(is_right, "other tasks")?;
     if is_broken {
-        Err(Ended::Broken)
+        Err(CallFault::Broken)
     } else {
         Ok(())
     }
@@ -74,7 +74,7 @@ fn are_polled(tasks: &[Task], is_told_broken: bool) -> Result<(), Ended> {
 /// Polls a round on two workers.
 pub fn one_round<R: Threads + Wait + Sync>(rt: &R, case: &mut Case<'_>) -> Answer {
     let Some(cut) = Cut::new(2, 1) else {
-        return Err(Ended::Wrong("no cut"));
+        return Err(CallFault::Wrong("no cut"));
     };
     let (tally, mut seat) = Tally::new(case.alloc)?;
     let tasks = due_tasks(case.alloc, case.input)?;

@@ -2,7 +2,7 @@
 ghost use Rattle.std.specs.Prelude.{◌≤◌};
 ghost use Rattle.zs_step.specs.Compiled.{last_seen};
 
-use crate::ended::{Answer, Case, Ended, SET_UP, right_if};
+use crate::ended::{Answer, CallFault, Case, SET_UP, right_if};
 use std::alloc::Global;
 use zs_step::{Compiled, Decision, Stepped, follow, plain};
 use zs_term::{read, write_out};
@@ -31,7 +31,7 @@ pub fn follow_history(case: &mut Case<'_>) -> Answer {
     case.call = SET_UP;
     let text = match answers.as_slice() {
         [_, _, third] => text_of(case.alloc, third),
-        _ => Err(Ended::Wrong("another number of answers")),
+        _ => Err(CallFault::Wrong("another number of answers")),
     };
     drop(answers);
     text
@@ -58,7 +58,7 @@ pub fn step_in_turn(case: &mut Case<'_>) -> Answer {
     text
 }
 
-fn three_steps(compiled: &mut Compiled) -> Result<Stepped, Ended>
+fn three_steps(compiled: &mut Compiled) -> Result<Stepped, CallFault>
     requires order { last_seen compiled.old ≤ 0 }
 {
     step_at(compiled, 1, 7)?;
@@ -67,7 +67,7 @@ fn three_steps(compiled: &mut Compiled) -> Result<Stepped, Ended>
 }
 
 // Makes one step. If it fails, the state stays broken.
-fn step_at(compiled: &mut Compiled, now: u64, input: u64) -> Result<Stepped, Ended>
+fn step_at(compiled: &mut Compiled, now: u64, input: u64) -> Result<Stepped, CallFault>
     requires order { last_seen compiled.old ≤ now }
     ensures seen { last_seen compiled.new ≤ now }
 {
@@ -76,7 +76,7 @@ fn step_at(compiled: &mut Compiled, now: u64, input: u64) -> Result<Stepped, End
         Err(fault) => {
             let is_refused = compiled.broken() && compiled.step(now, 0).is_err();
             right_if(is_refused && compiled.broken(), "whole again")?;
-            Err(Ended::from(fault))
+            Err(CallFault::from(fault))
         }
     }
 }

@@ -2,7 +2,7 @@
 ghost use Rattle.std.specs.Prelude.{◌≡◌, ◌≤◌, OnOk};
 ghost use Rattle.zs_drive.specs.Clocks.{max_tick};
 
-use crate::ended::{Answer, Case, Ended, right_if};
+use crate::ended::{Answer, CallFault, Case, right_if};
 use futures::Future;
 use futures::task::{Doorbell, Poll, Solo};
 use std::alloc::{Alloc, Global};
@@ -11,9 +11,9 @@ use zs_drive::{DriveFault, Job, Task};
 use zs_run::read_plan;
 
 /// Returns the last job of a plan.
-pub fn job_of(alloc: Global, plan: &str) -> Result<Job, Ended> {
+pub fn job_of(alloc: Global, plan: &str) -> Result<Job, CallFault> {
     let mut plan = read_plan(alloc, plan.as_bytes())?;
-    plan.jobs.pop().ok_or(Ended::Wrong("no job"))
+    plan.jobs.pop().ok_or(CallFault::Wrong("no job"))
 }
 
 /// Polls a new task of a plan's job at 0, 5, 10, 15 and 20.
@@ -29,7 +29,7 @@ pub fn poll_in_turn<R: Alloc<A = Global> + RandomSource>(rt: &R, case: &mut Case
     Ok(String::new(case.alloc))
 }
 
-fn poll_five_times(solo: &Solo, task: &mut Task) -> Result<(), Ended>
+fn poll_five_times(solo: &Solo, task: &mut Task) -> Result<(), CallFault>
     requires seen { task.old.seen ≡ 0 }
 {
     poll_well(solo, task, 0)?;
@@ -42,14 +42,14 @@ fn poll_five_times(solo: &Solo, task: &mut Task) -> Result<(), Ended>
 }
 
 // Makes one due poll. If it fails, the task stays broken, with unchanged records.
-fn poll_well(solo: &Solo, task: &mut Task, now: u64) -> Result<(), Ended>
+fn poll_well(solo: &Solo, task: &mut Task, now: u64) -> Result<(), CallFault>
     requires seen { task.old.seen ≤ now }
     requires bounded { now ≤ max_tick }
     ensures seen { OnOk result (task.new.seen ≡ now) }
 {
     let (polls, records) = (task.polls(), task.records().len());
     if task.due() != Some(now) {
-        return Err(Ended::Wrong("due at another moment"));
+        return Err(CallFault::Wrong("due at another moment"));
     }
     task.see(now);
     let Some(fault) = poll(solo, task) else {
@@ -59,11 +59,11 @@ fn poll_well(solo: &Solo, task: &mut Task, now: u64) -> Result<(), Ended>
     let is_refused = poll(solo, task).is_some();
     right_if(is_refused, "another answer of a broken task")?;
     is_as_before(task, polls, records, now)?;
-    Err(Ended::from(fault))
+    Err(CallFault::from(fault))
 }
 
 // A failed poll broke the task, and didn't change its records and its due moment.
-fn is_as_before(task: &Task, polls: u64, records: usize, now: u64) -> Result<(), Ended> {
+fn is_as_before(task: &Task, polls: u64, records: usize, now: u64) -> Result<(), CallFault> {
     let stands = task.polls() == polls && task.records().len() == records;
     let is_right = stands && has_first(task) && task.due() == Some(now);
     right_if(task.broken() && is_right, "not broken, or changed")

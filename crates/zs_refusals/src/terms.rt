@@ -1,5 +1,5 @@
 //! Schedules: parsed from text, checked as trees, and written.
-use crate::ended::{Answer, Case, Ended, SET_UP};
+use crate::ended::{Answer, CallFault, Case, SET_UP};
 use std::alloc::Global;
 use zs_term::{Checked, Cmp, Func, Pick, Term, Test, check, read, write};
 
@@ -26,7 +26,7 @@ fn written(alloc: Global, checked: Checked) -> Answer {
     Ok(text?)
 }
 
-fn tree(alloc: Global) -> Result<Term, Ended> {
+fn tree(alloc: Global) -> Result<Term, CallFault> {
     let delays = Box::new(alloc, Term::Exponential(10, 2))?;
     let first = Box::new(alloc, Term::CollectAll(delays))?;
     let few = Box::new(alloc, Term::Recurs(3))?;

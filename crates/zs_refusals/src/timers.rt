@@ -1,5 +1,5 @@
 //! The timer queue: it contains exactly the timers that were armed, also after a call failed.
-use crate::ended::{Answer, Case, Ended, right_if};
+use crate::ended::{Answer, CallFault, Case, right_if};
 use zs_agenda::{Agenda, AgendaFault};
 
 const JOBS: u64 = 40;
@@ -21,7 +21,7 @@ pub fn set_and_take(case: &mut Case<'_>) -> Answer {
     Ok(String::new(case.alloc))
 }
 
-fn set_all(agenda: &mut Agenda) -> Result<(), Ended> {
+fn set_all(agenda: &mut Agenda) -> Result<(), CallFault> {
     let mut ended = Ok(());
     for job in 0..JOBS {
         let first = agenda.next();
@@ -29,7 +29,7 @@ fn set_all(agenda: &mut Agenda) -> Result<(), Ended> {
             let is_as_before = !agenda.is_set(job) && agenda.next() == first;
             right_if(is_as_before, "a refused timer changed the queue")?;
             right_if(set(agenda, job)?.is_ok(), "a second refusal")?;
-            ended = Err(Ended::from(fault));
+            ended = Err(CallFault::from(fault));
         }
         right_if(agenda.is_set(job), "not set")?;
     }
@@ -37,18 +37,18 @@ fn set_all(agenda: &mut Agenda) -> Result<(), Ended> {
 }
 
 // Arms a job's timer, before anything was taken.
-fn set(agenda: &mut Agenda, job: u64) -> Result<Result<(), AgendaFault>, Ended> {
+fn set(agenda: &mut Agenda, job: u64) -> Result<Result<(), AgendaFault>, CallFault> {
     if agenda.is_set(job) || agenda.taken().is_some() {
-        return Err(Ended::Wrong("set or taken too early"));
+        return Err(CallFault::Wrong("set or taken too early"));
     }
     Ok(agenda.set(job, moment_of(job)))
 }
 
 // Ten takes, each of four jobs with rising numbers, and one that returns `None`.
-fn fire_all(agenda: &mut Agenda) -> Result<(), Ended> {
+fn fire_all(agenda: &mut Agenda) -> Result<(), CallFault> {
     for moment in 1..11u64 {
         let Some((found, jobs)) = agenda.take()? else {
-            return Err(Ended::Wrong("a timer is lost"));
+            return Err(CallFault::Wrong("a timer is lost"));
         };
         let is_right = found == moment && jobs.len() == 4 && jobs.is_sorted();
         right_if(is_right, "other timers")?;

@@ -1,5 +1,5 @@
 //! Whole runs: the attempts of each job, its ending, and the polls in all.
-use super::gates::{Crowd, InTurn, Meeting, Record};
+use super::gates::{Crowd, Meeting, OneByOne, Record};
 use super::support::expect_text;
 use super::support::jobs::{Listed, TWICE, jobs_of, retried};
 use std::alloc::{AllocError, Global};
@@ -412,7 +412,7 @@ fn a_moment_has_as_many_threads_as_workers_or_batches(rt: HostRuntime) -> Result
 #[test]
 fn one_thread_polls_the_jobs_of_a_moment_in_order(rt: HostRuntime) -> Result<(), Fail> {
     for cut in [(1, 1), (1, 3), (64, 80), (64, 10_000)] {
-        let gate = InTurn::of(80);
+        let gate = OneByOne::of(80);
         expect_light(&rt, rt.alloc(), cut, &gate, 80)?;
         assert!(rt; (gate.passes(), gate.wrong()) == (160, 0));
     }

@@ -185,16 +185,16 @@ impl Gate for Slow {
 /// Counts its passes. Each must be of the next job in turn, and get the number of passes before it
 /// as the polls so far.
 #[derive(Drop)]
-pub struct InTurn {
+pub struct OneByOne {
     jobs: u64,
     passes: AtomicU64,
     wrong: AtomicU64,
 }
 
-impl InTurn {
+impl OneByOne {
     /// Makes a gate for the jobs below this number.
-    pub fn of(jobs: u64) -> InTurn {
-        InTurn {
+    pub fn of(jobs: u64) -> OneByOne {
+        OneByOne {
             jobs,
             passes: AtomicU64::new(0),
             wrong: AtomicU64::new(0),
@@ -212,7 +212,7 @@ impl InTurn {
     }
 }
 
-impl Gate for InTurn {
+impl Gate for OneByOne {
     fn pass(&self, job: u64, _now: u64, done: u64) {
         let before = self.passes.fetch_add(1, Ordering::SeqCst);
         if Some(job) != before.checked_rem(self.jobs) || done != before {

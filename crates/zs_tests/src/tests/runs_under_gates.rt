@@ -1,7 +1,7 @@
 //! Runs on several workers, under gates that hold a thread until others have come. A run on fewer
 //! threads, or one that holds a lock over both the gate and the poll, stops waiting, and a flag
 //! shows it.
-use super::gates::{Apart, Crowd, Held, InTurn, Meeting, Record, Rounds, Slow};
+use super::gates::{Apart, Crowd, Held, Meeting, OneByOne, Record, Rounds, Slow};
 use super::support::expect_each;
 use super::support::plans::{PLAN, plan_of, report_of, written};
 use std::alloc::Global;
@@ -59,7 +59,7 @@ fn one_worker_takes_the_batches_of_both_other_jobs(rt: HostRuntime) -> Result<()
 
 #[test]
 fn each_pass_is_told_of_the_polls_before(rt: HostRuntime) -> Result<(), Fail> {
-    let gate = InTurn::of(1);
+    let gate = OneByOne::of(1);
     let _ = written(&rt, rt.alloc(), &gate, PLAN)?;
     assert!(rt; gate.passes() == 3 && gate.wrong() == 0);
     Ok(())

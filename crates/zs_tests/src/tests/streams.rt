@@ -1,7 +1,7 @@
 //! Readers and writers of `std` that fail, transfer few bytes at a time, or never end.
 use super::support::expect_each;
 use super::support::plans::{PLAN, REPORT};
-use super::support::streams::{Counted, Halting, KINDS, Limited, Spaces, Stumbling};
+use super::support::streams::{CallCounter, Halting, KINDS, Limited, Spaces, Stumbling};
 use std::alloc::{Alloc, Global};
 use std::io;
 use std::io::Read;
@@ -171,12 +171,12 @@ fn expect_calls<R: Abort + Threads + Wait + Sync>(
     wanted: Result<(), RunFault>,
     calls: (u64, u64),
 ) {
-    let mut inner = Counted {
+    let mut inner = CallCounter {
         inner: PLAN.as_bytes(),
         calls: 0,
         idle: None,
     };
-    let mut taking = Counted {
+    let mut taking = CallCounter {
         inner: Limited::of(alloc, 50, 1000, true),
         calls: 0,
         idle,

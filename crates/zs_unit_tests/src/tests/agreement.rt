@@ -158,7 +158,7 @@ fn pairs(alloc: Global, dice: &mut Dice) -> Result<Vec<(u64, u64)>, AllocError> 
 
 // What `plain` returns, and what `follow` returns, with its visits.
 #[derive(Drop)]
-struct Told {
+struct BothAnswers {
     plain: String,
     followed: String,
 }
@@ -168,9 +168,9 @@ fn both_answers<R: Abort + Alloc<A = Global>>(
     rt: &R,
     schedule: &str,
     pairs: &[(u64, u64)],
-) -> Result<Told, Fail> {
+) -> Result<BothAnswers, Fail> {
     let alloc = rt.alloc();
-    let mut told = Told {
+    let mut told = BothAnswers {
         plain: String::new(alloc),
         followed: String::new(alloc),
     };

@@ -110,10 +110,10 @@ fn deep_pairs_and_a_long_chain_are_too_big(rt: HostRuntime) {
 
 // The form of a term that a caller makes, its nesting depth, and the kind of its outputs or its
 // fault.
-type Verdict<'a> = (Form, u64, &'a str);
+type Verdict<'a> = (MadeTerm, u64, &'a str);
 
 // A term that a caller makes.
-enum Form {
+enum MadeTerm {
     Recurs,
     NoFactor,
     NoWindow,
@@ -124,28 +124,28 @@ enum Form {
 }
 
 static VERDICTS: [Verdict<'static>; 7] = [
-    (Form::Recurs, 0, "numbers"),
-    (Form::NoFactor, 0, "factor is 0"),
-    (Form::NoWindow, 0, "window is 0"),
-    (Form::Lists, 63, "others"),
-    (Form::Lists, 64, "too big"),
+    (MadeTerm::Recurs, 0, "numbers"),
+    (MadeTerm::NoFactor, 0, "factor is 0"),
+    (MadeTerm::NoWindow, 0, "window is 0"),
+    (MadeTerm::Lists, 63, "others"),
+    (MadeTerm::Lists, 64, "too big"),
     // A term of any depth is freed.
-    (Form::Lists, 200_000, "too big"),
-    (Form::Pairs, 200_000, "too big"),
+    (MadeTerm::Lists, 200_000, "too big"),
+    (MadeTerm::Pairs, 200_000, "too big"),
 ];
 
 // Makes the term of a row.
-fn term_of(alloc: Global, form: &Form, times: u64) -> Result<Term, AllocError> {
+fn term_of(alloc: Global, form: &MadeTerm, times: u64) -> Result<Term, AllocError> {
     let mut term = match form {
-        Form::Recurs => Term::Recurs(3),
-        Form::NoFactor => Term::Exponential(1, 0),
-        Form::NoWindow => Term::Windowed(0),
-        Form::Lists | Form::Pairs => Term::Forever,
+        MadeTerm::Recurs => Term::Recurs(3),
+        MadeTerm::NoFactor => Term::Exponential(1, 0),
+        MadeTerm::NoWindow => Term::Windowed(0),
+        MadeTerm::Lists | MadeTerm::Pairs => Term::Forever,
     };
     for _ in 0..times {
         let part = Box::new(alloc, term)?;
         term = match form {
-            Form::Pairs => Term::Both(part, Box::new(alloc, Term::Forever)?),
+            MadeTerm::Pairs => Term::Both(part, Box::new(alloc, Term::Forever)?),
             _ => Term::CollectAll(part),
         };
     }

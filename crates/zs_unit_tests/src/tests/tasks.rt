@@ -17,7 +17,7 @@ use zs_term::read;
 type Given<'a> = (u64, Mode, &'a str, u64, &'a [Beat]);
 
 // When a task is polled, and what is said of it.
-enum Polling<'a> {
+enum PollPlan<'a> {
     // At each due millisecond up to this horizon: its state in the end.
     Due(u64),
     // At these moments, due or not: the result of each poll.
@@ -27,7 +27,7 @@ enum Polling<'a> {
 }
 
 // A name, a task, its polls, and what is said of it.
-type Row<'a> = (&'a str, Given<'a>, Polling<'a>, &'a str);
+type Row<'a> = (&'a str, Given<'a>, PollPlan<'a>, &'a str);
 
 // Makes a script.
 fn script_of(alloc: Global, beats: &[Beat]) -> Result<Script, Fail> {
@@ -184,19 +184,19 @@ fn push_polls<R: Abort>(
     rt: &R,
     solo: &Solo,
     task: &mut Task,
-    polls: &Polling<'_>,
+    polls: &PollPlan<'_>,
     text: &mut String,
 ) -> Result<(), AllocError>
     requires seen { task.old.seen ≡ 0 }
 {
     match polls {
-        Polling::Due(horizon) => {
+        PollPlan::Due(horizon) => {
             assert!(rt; *horizon < 10000);
             run(solo, task, *horizon);
             push_standing(text, task)
         }
-        Polling::Results(moments) => poll_at_each(rt, solo, task, moments, false, text),
-        Polling::Records(moments) => poll_at_each(rt, solo, task, moments, true, text),
+        PollPlan::Results(moments) => poll_at_each(rt, solo, task, moments, false, text),
+        PollPlan::Records(moments) => poll_at_each(rt, solo, task, moments, true, text),
     }
 }
 
@@ -204,7 +204,7 @@ fn push_polls<R: Abort>(
 fn described<R: Abort + Alloc<A = Global> + RandomSource>(
     rt: &R,
     given: &Given<'_>,
-    polls: &Polling<'_>,
+    polls: &PollPlan<'_>,
 ) -> Result<String, Fail> {
     let solo = Solo::new(rt, Doorbell::spinning())?;
     let mut task = task_of(rt.alloc(), given)?;
@@ -240,7 +240,7 @@ static RUNS: [Row<'static>; 5] = [
             0,
             &[good!(1, 1), good!(1, 2), good!(1, 3)],
         ),
-        Polling::Due(1000),
+        PollPlan::Due(1000),
         "4 polls, due None, ending Some(Finished), last Some((2, Some(3)))",
     ),
     (
@@ -252,7 +252,7 @@ static RUNS: [Row<'static>; 5] = [
             0,
             &[bad!(1, 11), bad!(2, 12), bad!(3, 13)],
         ),
-        Polling::Due(1000),
+        PollPlan::Due(1000),
         "5 polls, due None, ending Some(Failed(13)), last Some((6, Some(9)))",
     ),
     (
@@ -264,13 +264,13 @@ static RUNS: [Row<'static>; 5] = [
             3,
             &[good!(2, 4), good!(u64::MAX, 9)],
         ),
-        Polling::Due(20),
+        PollPlan::Due(20),
         "2 polls, due Some(18446744073709551615), ending None, last Some((5, None))",
     ),
     (
         "a_job_may_make_1002_attempts",
         (7, Mode::Repeat, "forever", 0, &[good!(1, 5)]),
-        Polling::Due(1001),
+        PollPlan::Due(1001),
         "1002 polls, due Some(1002), ending None, last Some((1001, None))",
     ),
     (
@@ -282,7 +282,7 @@ static RUNS: [Row<'static>; 5] = [
             0,
             &[good!(4, 1)],
         ),
-        Polling::Due(1000),
+        PollPlan::Due(1000),
         "2 polls, due Some(18446744073709551615), ending None, last Some((0, Some(4)))",
     ),
 ];
@@ -296,7 +296,7 @@ static POLLS: [Row<'static>; 5] = [
     (
         "a_task_is_known_by_its_job_and_polled_by_hand",
         (7, Mode::Retry, "recurs(3)", 0, &[bad!(5, 7), good!(5, 1)]),
-        Polling::Results(&[0, 5, 10, 10]),
+        PollPlan::Results(&[0, 5, 10, 10]),
         "7 a Retry, broken false, due Some(0)
 Pending, 1 polls, due Some(5)
 Pending, 2 polls, due Some(10)
@@ -307,7 +307,7 @@ Ready(Ok(Succeeded(1))), 3 polls, due None
     (
         "an_early_poll_changes_nothing",
         (7, Mode::Retry, "recurs(3)", 5, &[bad!(5, 7)]),
-        Polling::Results(&[4]),
+        PollPlan::Results(&[4]),
         "7 a Retry, broken false, due Some(5)
 Pending, 0 polls, due Some(5)
 ",
@@ -315,7 +315,7 @@ Pending, 0 polls, due Some(5)
     (
         "an_ended_task_answers_again",
         (7, Mode::Retry, "recurs(3)", 0, &[good!(5, 1)]),
-        Polling::Results(&[0, 5, 5]),
+        PollPlan::Results(&[0, 5, 5]),
         "7 a Retry, broken false, due Some(0)
 Pending, 1 polls, due Some(5)
 Ready(Ok(Succeeded(1))), 2 polls, due None
@@ -331,7 +331,7 @@ Ready(Ok(Succeeded(1))), 2 polls, due None
             999_999_999_999_999,
             &[bad!(5, 7)],
         ),
-        Polling::Results(&[999_999_999_999_999]),
+        PollPlan::Results(&[999_999_999_999_999]),
         "7 a Retry, broken false, due Some(999999999999999)
 Pending, 1 polls, due Some(1000000000000004)
 ",
@@ -339,7 +339,7 @@ Pending, 1 polls, due Some(1000000000000004)
     (
         "a_task_may_have_any_number",
         (u64::MAX, Mode::Retry, "recurs(3)", 0, &[bad!(5, 7)]),
-        Polling::Results(&[]),
+        PollPlan::Results(&[]),
         "18446744073709551615 a Retry, broken false, due Some(0)
 ",
     ),
@@ -360,7 +360,7 @@ static RECORDS: [Row<'static>; 4] = [
             2,
             &[bad!(5, 7), bad!(3, 8), good!(4, 1)],
         ),
-        Polling::Records(&[2, 7, 17, 20, 30, 34]),
+        PollPlan::Records(&[2, 7, 17, 20, 30, 34]),
         "7 a Retry, broken false, due Some(2)
 0 polls, ending None
 1 polls, ending None
@@ -386,7 +386,7 @@ static RECORDS: [Row<'static>; 4] = [
     (
         "one_poll_ends_an_attempt_and_begins_the_next",
         (7, Mode::Repeat, "recurs(5)", 0, &[good!(2, 1), bad!(3, 4)]),
-        Polling::Records(&[0, 2, 5]),
+        PollPlan::Records(&[0, 2, 5]),
         "7 a Repeat, broken false, due Some(0)
 0 polls, ending None
 1 polls, ending None
@@ -402,7 +402,7 @@ static RECORDS: [Row<'static>; 4] = [
     (
         "the_last_record_has_the_step_that_is_done",
         (7, Mode::Repeat, "recurs(1)", 0, &[good!(3, 9)]),
-        Polling::Records(&[0, 3, 6]),
+        PollPlan::Records(&[0, 3, 6]),
         "7 a Repeat, broken false, due Some(0)
 0 polls, ending None
 1 polls, ending None
@@ -418,7 +418,7 @@ static RECORDS: [Row<'static>; 4] = [
     (
         "an_early_poll_and_one_of_an_ended_task_record_nothing",
         (7, Mode::Retry, "recurs(0)", 1, &[bad!(4, 7)]),
-        Polling::Records(&[0, 2, 5, 8, 9]),
+        PollPlan::Records(&[0, 2, 5, 8, 9]),
         "7 a Retry, broken false, due Some(1)
 0 polls, ending None
 0 polls, ending None

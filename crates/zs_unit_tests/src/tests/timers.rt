@@ -39,7 +39,7 @@ fn taken_of(alloc: Global, agenda: &mut Agenda) -> Result<String, AllocError> {
 }
 
 // What is done with an agenda.
-enum Step<'a> {
+enum AgendaUse<'a> {
     // The timers of these jobs are set, each to its moment.
     Set(&'a [(u64, u64)]),
     // It is in this state.
@@ -49,35 +49,35 @@ enum Step<'a> {
 }
 
 // Makes a step.
-fn make<R: Abort + Alloc<A = Global>>(rt: &R, agenda: &mut Agenda, step: &Step<'_>, of: &str) {
+fn make<R: Abort + Alloc<A = Global>>(rt: &R, agenda: &mut Agenda, step: &AgendaUse<'_>, of: &str) {
     let (found, wanted) = match step {
-        Step::Set(timers) => return set_all(rt, agenda, timers),
-        Step::State(wanted) => (state_of(rt.alloc(), agenda), *wanted),
-        Step::Take(wanted) => (taken_of(rt.alloc(), agenda), *wanted),
+        AgendaUse::Set(timers) => return set_all(rt, agenda, timers),
+        AgendaUse::State(wanted) => (state_of(rt.alloc(), agenda), *wanted),
+        AgendaUse::Take(wanted) => (taken_of(rt.alloc(), agenda), *wanted),
     };
     let found = found.expect(rt, "memory");
     expect_text(rt, &found, wanted, of);
 }
 
-static AGENDAS: [(&str, &[Step<'static>]); 3] = [
+static AGENDAS: [(&str, &[AgendaUse<'static>]); 3] = [
     (
         "jobs_of_one_moment_fire_together_and_may_be_set_again",
         &[
-            Step::Set(&[(3, 50), (1, 50), (2, 70)]),
-            Step::State("true false, Some(50), None"),
-            Step::Take("50 [1, 3]"),
-            Step::State("false false, Some(70), Some(50)"),
-            Step::Set(&[(4, 60), (3, 80)]),
-            Step::Take("60 [4]"),
-            Step::Take("70 [2]"),
-            Step::Take("80 [3]"),
-            Step::Take("none"),
+            AgendaUse::Set(&[(3, 50), (1, 50), (2, 70)]),
+            AgendaUse::State("true false, Some(50), None"),
+            AgendaUse::Take("50 [1, 3]"),
+            AgendaUse::State("false false, Some(70), Some(50)"),
+            AgendaUse::Set(&[(4, 60), (3, 80)]),
+            AgendaUse::Take("60 [4]"),
+            AgendaUse::Take("70 [2]"),
+            AgendaUse::Take("80 [3]"),
+            AgendaUse::Take("none"),
         ],
     ),
     (
         "far_moments_fire_in_order",
         &[
-            Step::Set(&[
+            AgendaUse::Set(&[
                 (0, u64::MAX),
                 (1, 4096),
                 (2, 4095),
@@ -85,21 +85,21 @@ static AGENDAS: [(&str, &[Step<'static>]); 3] = [
                 (4, 4096),
                 (5, 1_000_000_000),
             ]),
-            Step::Take("1 [3]"),
-            Step::Take("4095 [2]"),
-            Step::Take("4096 [1, 4]"),
-            Step::Set(&[(3, 4097)]),
-            Step::Take("4097 [3]"),
-            Step::Take("1000000000 [5]"),
-            Step::Take("18446744073709551615 [0]"),
-            Step::Take("none"),
+            AgendaUse::Take("1 [3]"),
+            AgendaUse::Take("4095 [2]"),
+            AgendaUse::Take("4096 [1, 4]"),
+            AgendaUse::Set(&[(3, 4097)]),
+            AgendaUse::Take("4097 [3]"),
+            AgendaUse::Take("1000000000 [5]"),
+            AgendaUse::Take("18446744073709551615 [0]"),
+            AgendaUse::Take("none"),
         ],
     ),
     (
         "any_job_number_can_be_set",
         &[
-            Step::Set(&[(u64::MAX, 7), (10_000, 7), (9_999, 7)]),
-            Step::Take("7 [9999, 10000, 18446744073709551615]"),
+            AgendaUse::Set(&[(u64::MAX, 7), (10_000, 7), (9_999, 7)]),
+            AgendaUse::Take("7 [9999, 10000, 18446744073709551615]"),
         ],
     ),
 ];

@@ -2,7 +2,7 @@
 ghost use Rattle.std.specs.Prelude.{◌≤◌};
 ghost use Rattle.zs_drive.specs.Clocks.{max_tick};
 
-use super::super::gates::InTurn;
+use super::super::gates::OneByOne;
 use super::*;
 use std::process::Abort;
 
@@ -51,7 +51,7 @@ fn expect_came(rt: &impl Abort, came: &Came, number: u64, now: u64, count: u64) 
 
 #[test]
 fn a_batch_is_polled_in_order_and_each_poll_counted(rt: HostRuntime) -> Result<(), Fail> {
-    let gate = InTurn::of(3);
+    let gate = OneByOne::of(3);
     let came = poll_new(&rt, rt.alloc(), &gate, 4, 2, 3)?;
     expect_came(&rt, &came, 4, 2, 3);
     assert!(rt; (gate.passes(), gate.wrong()) == (3, 0));

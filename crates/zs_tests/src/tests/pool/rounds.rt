@@ -3,7 +3,7 @@ ghost use Rattle.std.specs.Prelude.{◌≡◌, ◌≤◌, IfOk};
 ghost use Rattle.zs_drive.specs.Clocks.{max_tick};
 ghost use Rattle.zs_term.specs.Saturating.{max_moment};
 
-use super::super::gates::{Chained, Held, InTurn, LastFirst, Meeting, Slow};
+use super::super::gates::{Chained, Held, LastFirst, Meeting, OneByOne, Slow};
 use super::*;
 use std::process::Abort;
 use std::sync::Wait;
@@ -81,7 +81,7 @@ fn an_empty_round_counts_nothing(rt: HostRuntime) -> Result<(), Fail> {
 
 #[test]
 fn one_worker_passes_each_gate_between_two_polls(rt: HostRuntime) -> Result<(), Fail> {
-    let gate = InTurn::of(3);
+    let gate = OneByOne::of(3);
     expect_round(&rt, rt.alloc(), within(&rt, 1, 1), &gate, 3)?;
     assert!(rt; (gate.passes(), gate.wrong()) == (3, 0));
     Ok(())

@@ -300,13 +300,13 @@ impl Write for Answers {
 /// A reader or a writer that counts its calls. One call of a writer, counted from 0, may take
 /// nothing.
 #[derive(Drop)]
-pub struct Counted<T> {
+pub struct CallCounter<T> {
     pub inner: T,
     pub calls: u64,
     pub idle: Option<u64>,
 }
 
-impl<T> Counted<T> {
+impl<T> CallCounter<T> {
     // Counts a call, and returns whether it is the one that takes nothing.
     fn is_idle(&mut self) -> bool {
         let call = self.calls;
@@ -315,14 +315,14 @@ impl<T> Counted<T> {
     }
 }
 
-impl<R: Read> Read for Counted<R> {
+impl<R: Read> Read for CallCounter<R> {
     fn read(&mut self, buf: &mut [u8]) -> io::Result<usize> {
         let _ = self.is_idle();
         self.inner.read(buf)
     }
 }
 
-impl<W: Write> Write for Counted<W> {
+impl<W: Write> Write for CallCounter<W> {
     fn write(&mut self, buf: &[u8]) -> io::Result<usize> {
         if self.is_idle() {
             return Ok(0);
