@@ -281,9 +281,10 @@ def test_the_loop_in_c_says_which_macro_it_needs_where_it_is_included_late(libra
 def test_the_readme_in_c_gives_up(library, tmp_path):
     code = re.search(r"```c\n(.*?)```", (BINDINGS / "c" / "README.md").read_text(), re.DOTALL)[1]
     (tmp_path / "readme.c").write_text(code)
-    ran(["cc", *STRICT, "-std=c99", *built_library(library).flags, "-I", BINDINGS / "c", "-o", "readme", "readme.c",
-         library / "libzsched.a"], tmp_path)
-    assert ran(["./readme"], tmp_path) == "504 after 4 attempts\n"
+    for compiler in [["cc", "-std=c99"], ["c++", "-x", "c++", "-std=c++17"]]:
+        ran([*compiler, *STRICT, "-I", TOP / "include", "-I", BINDINGS / "c", "-c", "-o", "readme.o", "readme.c"], tmp_path)
+        ran(["cc", "-o", "readme", "readme.o", library / "libzsched.a"], tmp_path)
+        assert ran(["./readme"], tmp_path) == "504 after 4 attempts\n"
 
 
 def test_the_example_in_go_waits_for_its_server_and_its_tests_pass(library, tmp_path):

@@ -393,8 +393,8 @@ def test_a_clock_that_falls_makes_no_attempt_more(zsched):
         raise OSError
     with pytest.raises(OSError):
         zsched.retrying("(spaced(30) && recurs(3))", clock=clock, sleep=clock.sleep)(effect)()
-    # What is before the start counts as the start: waits last from there to the begin that is planned.
-    assert clock.slept == [0.03, 0.066, 0.097] and moments == [0, -59.965, -59.894, -59.792]
+    # The clock stands at 5 ms for the second attempt, which counts from its planned begin at 35 ms: the next is at 66 ms.
+    assert [round(it, 6) for it in clock.slept] == [0.03, 0.056, 0.03] and moments == [0, -59.965, -59.904, -59.869]
 
 
 def test_statistics_are_of_all_calls_and_options_can_be_others(retrying, clock):

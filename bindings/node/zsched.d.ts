@@ -83,7 +83,7 @@ export class Bounds {
 /** What a loop over a schedule may do. */
 export interface Driver {
   /** The least and the most milliseconds of an attempt: 1 and null, which is no limit, without it. */
-  attempt?: [least?: bigint | number, most?: bigint | number | null];
+  attempt?: readonly [least?: bigint | number, most?: bigint | number | null];
   /** The share of each wait that jitter may take off, from 0 to 1, in whole percent: 0 without it. */
   jitter?: number;
   /** The longest least wait that a service may ask for, in milliseconds: 0 without it. */
@@ -155,7 +155,7 @@ export interface RetryOptions {
   retryAfter?: (error: any) => bigint | number | null | undefined;
   /** The longest of these waits, 3600000 without it: a longer one, or Infinity, lasts as long. */
   retryAfterMost?: number;
-  /** Is called before each wait, and when the retry gives up. If it throws, the retry ends so. */
+  /** Is called before each wait, and when the retry gives up. If it throws, the retry ends so; its cause is the error. */
   onFailedAttempt?: (failed: FailedAttempt) => void | Promise<void>;
   /** If it is aborted, the retry throws an Aborted. It is passed to the attempts. */
   signal?: AbortSignal;

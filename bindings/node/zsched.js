@@ -295,6 +295,18 @@ async function outcome(attempt, number, given, most) {
   return { value };
 }
 
+/** Awaits a hook. If it fails, the attempt's error is the cause of that, unless it has another. */
+async function awaited(hook, failed) {
+  try {
+    return await hook(failed);
+  } catch (fault) {
+    if (fault instanceof Error && fault.cause === undefined && Object.isExtensible(fault)) {
+      fault.cause = failed.error;
+    }
+    throw fault;
+  }
+}
+
 async function retry(schedule, attempt, options = {}) {
   const { inputOf = () => 0, shouldRetry = () => true, retryAfter = () => 0, onFailedAttempt = () => {} } = options;
   const { signal, budget, attemptMost, jitter = 0, retryAfterMost: longest = HOUR } = options;
@@ -321,7 +333,7 @@ async function retry(schedule, attempt, options = {}) {
       throwIfAborted(signal, error ?? found.error);
     }
     error = found.error;
-    if (!await shouldRetry({ error, number })) {
+    if (!await awaited(shouldRetry, { error, number })) {
       throw error;
     }
     throwIfAborted(signal, error);
@@ -329,7 +341,7 @@ async function retry(schedule, attempt, options = {}) {
       whole('input', inputOf(error)), time('least wait', retryAfter(error) ?? 0)]);
     run ??= schedule.begin();
     const begin = budget?.take() ?? true ? run.plan(began, ended, input, { least, longest, jitter }) : null;
-    await onFailedAttempt({ error, number, wait: begin === null ? null : Number(begin - ended) / 1e6 });
+    await awaited(onFailedAttempt, { error, number, wait: begin === null ? null : Number(begin - ended) / 1e6 });
     if (begin === null) {
       throw error;
     }

@@ -167,7 +167,7 @@ public final class OnlyInJava {
         }
     }
 
-    /** A clock that falls below its start stands still, and each sleep ends when it is at the planned begin. */
+    /** A clock that falls, also below its start, counts as if it stood still. */
     private static void falling() {
         for (long fall : new long[] {20, 80}) {
             long[] now = {0};
@@ -182,7 +182,7 @@ public final class OnlyInJava {
                 now[0] -= ++attempts[0] == 2 ? fall * 1_000_000 : 0;
                 return fail();
             })).getMessage(), "busy");
-            same(told, fall == 20 ? List.of(31L, 51L, 31L, 31L, 31L, 0L) : List.of(31L, 62L, 80L, 31L, 31L, 0L));
+            same(told, List.of(31L, 31L, 31L, 31L, 31L, 0L));
         }
     }
 

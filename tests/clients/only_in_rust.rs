@@ -215,7 +215,7 @@ fn wrong_texts_and_numbers_are_refused() {
 }
 
 #[test]
-fn a_clock_that_falls_is_waited_for() {
+fn a_clock_that_falls_stands_still() {
     let (clock, mut waits, mut attempts) = (Cell::new(0), Vec::new(), 0);
     let attempt = || {
         attempts += 1;
@@ -229,7 +229,7 @@ fn a_clock_that_falls_is_waited_for() {
     let retry = Retry::new("(spaced(30) && recurs(5))").expect("a schedule");
     let ended = retry.call_by(attempt, || Duration::from_millis(clock.get()), sleep);
     // The attempt in which it falls began at 35 and counts as 1 millisecond, so the next one begins at 66.
-    assert_eq!((ended.is_err(), waits), (true, vec![30, 66, 30, 30, 30]));
+    assert_eq!((ended.is_err(), waits), (true, vec![30, 31, 30, 30, 30]));
 }
 
 #[test]

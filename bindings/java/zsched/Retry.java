@@ -274,7 +274,8 @@ public final class Retry implements Cloneable {
     /** One call: its schedule, last error, number of attempts, and when the last one began and the next one may. */
     private final class Run {
         private final BooleanSupplier isCancelled;
-        private final long start = clock.getAsLong();
+        private long start = clock.getAsLong();
+        private long last; // the greatest time since the start that the clock showed
         private Schedule state; // begins at the first failure; most calls have none
         private Exception error;
         private long number;
@@ -286,8 +287,13 @@ public final class Retry implements Cloneable {
 
         Run(BooleanSupplier isCancelled) { this.isCancelled = isCancelled; }
 
-        /** Returns the time since the start, 0 while the clock is below it. */
-        private Duration elapsed() { return Duration.ofNanos(Math.max(0, clock.getAsLong() - start)); }
+        /** Returns the time since the start. A clock that falls counts as one that stood still. */
+        private Duration elapsed() {
+            long now = clock.getAsLong() - start;
+            start -= Math.max(0, last - now);
+            last = Math.max(last, now);
+            return Duration.ofNanos(last);
+        }
 
         /** Notes when an attempt begins. */
         void begin() { began = elapsed(); }

@@ -102,13 +102,13 @@ def refuse_awaitable(result: typing.Any, why: str) -> None:
 class Run:
     """One run of a Retrying, which iterates over its attempts.
 
-    It holds the schedule, the start, when the last attempt began, in nanoseconds from the start, and until when the
-    clock has to go before the next one."""
+    It holds the schedule, the start, and in nanoseconds from there when the last attempt began, when the next one may
+    begin, and the last moment that was read."""
 
     # It is made after the first error. Most calls have none, and set nothing of this.
     schedule: Schedule | None = None
-    attempts = began = 0
-    until = wait = 0.0
+    attempts = began = begin = last = 0
+    wait = 0.0
     is_over = False
 
     def __init__(self, by: "Retrying") -> None:
@@ -137,12 +137,16 @@ class Run:
         return Attempt(self)
 
     def now(self) -> int:
-        """Returns the nanoseconds from the start by the clock."""
-        return round((self.by.clock() - self.start) * 1e9)
+        """Returns the nanoseconds from the start by the clock. One that falls counts as one that stood still."""
+        now = round((self.by.clock() - self.start) * 1e9)
+        if now < self.last:
+            self.start -= (self.last - now) / 1e9
+        self.last = max(self.last, now)
+        return self.last
 
     def rest(self) -> float:
         """Returns the seconds until the next attempt may begin, at most LONGEST."""
-        return min(self.until - self.by.clock(), LONGEST)
+        return min((self.begin - self.now()) / 1e9, LONGEST)
 
     def sleep(self) -> None:
         """Sleeps until the next attempt may begin."""
@@ -217,7 +221,7 @@ class Run:
             if self.by.on_give_up is not None:
                 self.call_hook("on_give_up", failure, self.attempts)
             return False
-        self.until, self.wait, self.is_over = self.start + begin / 1e9, (begin - max(0, ended)) / 1e9, False
+        self.begin, self.wait, self.is_over = begin, (begin - ended) / 1e9, False
         self.by.statistics.add(retries=1, slept=self.wait)
         if self.by.before_sleep is not None:
             self.call_hook("before_sleep", failure, self.attempts, self.wait)

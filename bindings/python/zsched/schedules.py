@@ -93,7 +93,7 @@ class Schedule:
         numbers = array.array("Q", [*moments, input, least, longest])
         if draw is None:
             draw = random.getrandbits(32) if jitter else 0
-        turn, begin = Turn(*numbers, round(100 * jitter), *array.array("I", [draw])), ctypes.c_uint64()
+        turn, begin = Turn(*numbers, int(100 * jitter + 0.5), *array.array("I", [draw])), ctypes.c_uint64()
         return self._continued(library().zs_plan, begin, turn, begin)
 
     def after(self, moment: int, input: int = 0) -> int | None:
@@ -157,7 +157,7 @@ def bounds(schedule: str | Schedule, steps: int, attempt: tuple[int, int | None]
     refuse_outside("jitter", jitter, 1)
     text, (least, most) = schedule if isinstance(schedule, str) else schedule.text, attempt
     steps, *numbers = array.array("Q", [steps, least, most is not None, 0 if most is None else most,
-                                        100 - round(100 * jitter), 100, asked, late])
+                                        100 - int(100 * jitter + 0.5), 100, asked, late])
     data, found, at = text.encode(), RunBounds(), ctypes.c_uint64()
     refuse(text, library().zs_bounds(data, len(data), Driver(*numbers), steps, found, at), at.value)
     return Bounds(found.seen, found.least, found.most if found.has_most else None, found.longest_ms,

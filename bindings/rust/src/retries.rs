@@ -257,8 +257,9 @@ impl<'a, E> Retry<'a, E> {
 
     /// Retries as `call` does, with the caller's clock and sleep.
     ///
-    /// `now` returns the time from the begin of the first attempt; it may fall. `sleep` gets the time
-    /// from the end of the attempt to the begin of the next one by this clock, and may end early.
+    /// `now` returns the time from the begin of the first attempt; if it falls, it counts as if it stood
+    /// still. `sleep` gets the time from the end of the attempt to the begin of the next one, and may end
+    /// early.
     pub fn call_by<T>(
         &self,
         attempt: impl FnMut() -> Result<T, E>,
@@ -275,6 +276,14 @@ impl<'a, E> Retry<'a, E> {
         mut sleep_until: impl FnMut(Duration, Duration),
     ) -> Result<T, Failed<E>> {
         let mut run = Run::new(self);
+        // A clock that falls counts as one that stood still.
+        let (mut last, mut fallen) = (Duration::ZERO, Duration::ZERO);
+        let mut now = || {
+            let moment = now().saturating_add(fallen);
+            fallen = fallen.saturating_add(last.saturating_sub(moment));
+            last = last.max(moment);
+            last
+        };
         loop {
             match attempt() {
                 Ok(value) => return Ok(run.succeed(value)),
