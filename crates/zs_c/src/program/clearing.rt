@@ -7,7 +7,7 @@ ghost use Rattle.zs_c.specs.Leaves.{ClearsLeaf};
 ghost use Rattle.zs_c.specs.Steps.{ClearsParts};
 
 use crate::program::leaf::store;
-use crate::program::node::{Form, Sizes, front, read_node, words_after};
+use crate::program::node::{Form, HEAD, LONG_HEAD, Sizes, read_node, split, words_after};
 use zs_step::Leaf;
 
 // Resets the words of a leaf that is as before any step.
@@ -35,9 +35,9 @@ pub(crate) fn clear(code: &[u64], words: &mut [u64], levels: u64)
                 clear_parts(code, &mut words[1..], sizes, levels - 1);
             }
         }
-        Form::WhileInput(_) | Form::Map(_) => clear(words_after(code, 3), words, levels - 1),
+        Form::WhileInput(_) | Form::Map(_) => clear(words_after(code, HEAD), words, levels - 1),
         Form::WhileOutput(_, _) | Form::ResetWhen(_, _) => {
-            clear(words_after(code, 4), words, levels - 1)
+            clear(words_after(code, LONG_HEAD), words, levels - 1)
         }
     }
 }
@@ -47,13 +47,10 @@ pub(crate) fn clear(code: &[u64], words: &mut [u64], levels: u64)
 fn clear_parts(code: &[u64], words: &mut [u64], sizes: Sizes, levels: u64)
     ensures clears { ClearsParts sizes code.now levels words.old words.new }
 {
-    let (rest, size, state) = (
-        words_after(code, 3),
-        sizes.code as usize,
-        sizes.state as usize,
-    );
+    let (first, second) = split(code, sizes);
+    let state = sizes.state as usize;
     if state <= words.len() {
-        clear(front(rest, size), &mut words[..state], levels);
-        clear(words_after(rest, size), &mut words[state..], levels);
+        clear(first, &mut words[..state], levels);
+        clear(second, &mut words[state..], levels);
     }
 }

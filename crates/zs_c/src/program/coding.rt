@@ -3,14 +3,18 @@
 ghost use Rattle.std.specs.Prelude.{◌≡◌, ◌⊎◌, ◌+◌, ◌*◌, ◌≤◌, true, false, [], ◌++◌, length, IfOk, IfErr};
 ghost use Rattle.zs_term.specs.Schedule.{schedule_of, weight, max_weight};
 ghost use Rattle.zs_step.specs.Memory.{keeps_no_list};
-ghost use Rattle.zs_c.specs.Code.{ListsOne, code_of, held_of, held_size, pair_code, cmp_word, pick_word, func_word, func_number};
+ghost use Rattle.zs_c.specs.Code.{ListsOne, code_of, held_of, held_size, pair_code, func_word, func_number};
 ghost use Rattle.zs_c.specs.Program.{program_of, program_state};
 ghost use Rattle.zs_c.specs.declared.refusal.Refusal.TheVariants.{Memory, KeepsList};
 
+use crate::program::node::{
+    AND_THEN, BOTH, EITHER, ELAPSED, EXPONENTIAL, FIBONACCI, FIXED, FOREVER, IDENTITY, LINEAR, MAP,
+    RECURS, RESET_WHEN, SPACED, WHILE_INPUT, WHILE_OUTPUT, WINDOWED,
+};
 use crate::program::opening::{PROGRAM_VERSION, check_word};
 use crate::refusal::Refusal;
 use std::alloc::Global;
-use zs_term::{Checked, Cmp, Func, Pick, Term};
+use zs_term::{Checked, Func, Term};
 
 // Returns the program of a schedule, and the number of words of its state. Fails if the schedule
 // stores a list.
@@ -47,33 +51,33 @@ fn write_code(alloc: Global, term: &Term, code: &mut Vec<u64>) -> Result<u64, Re
         → keeps_no_list (schedule_of term.now) ≡ false) }
 {
     match term {
-        Term::Forever => write_leaf(&[1], 2, code),
-        Term::Identity => write_leaf(&[2], 1, code),
-        Term::Elapsed => write_leaf(&[3], 3, code),
-        Term::Recurs(n) => write_leaf(&[4, *n], 2, code),
-        Term::Spaced(n) => write_leaf(&[5, *n], 2, code),
-        Term::Fixed(n) => write_leaf(&[6, *n], 4, code),
-        Term::Fibonacci(n) => write_leaf(&[7, *n], 3, code),
-        Term::Linear(n) => write_leaf(&[8, *n], 2, code),
-        Term::Windowed(n) => write_leaf(&[9, *n], 3, code),
-        Term::Exponential(base, factor) => write_leaf(&[10, *base, *factor], 2, code),
-        Term::Both(a, b) => write_parts(alloc, 11, a, b, code),
-        Term::Either(a, b) => write_parts(alloc, 12, a, b, code),
-        Term::AndThen(a, b) => Ok(1 + write_parts(alloc, 13, a, b, code)?),
+        Term::Forever => write_leaf(&[FOREVER], 2, code),
+        Term::Identity => write_leaf(&[IDENTITY], 1, code),
+        Term::Elapsed => write_leaf(&[ELAPSED], 3, code),
+        Term::Recurs(n) => write_leaf(&[RECURS, *n], 2, code),
+        Term::Spaced(n) => write_leaf(&[SPACED, *n], 2, code),
+        Term::Fixed(n) => write_leaf(&[FIXED, *n], 4, code),
+        Term::Fibonacci(n) => write_leaf(&[FIBONACCI, *n], 3, code),
+        Term::Linear(n) => write_leaf(&[LINEAR, *n], 2, code),
+        Term::Windowed(n) => write_leaf(&[WINDOWED, *n], 3, code),
+        Term::Exponential(base, factor) => write_leaf(&[EXPONENTIAL, *base, *factor], 2, code),
+        Term::Both(a, b) => write_parts(alloc, BOTH, a, b, code),
+        Term::Either(a, b) => write_parts(alloc, EITHER, a, b, code),
+        Term::AndThen(a, b) => Ok(1 + write_parts(alloc, AND_THEN, a, b, code)?),
         Term::WhileInput(s, test) => {
-            code.extend_from_slice(&[14, cmp_word(test.cmp), test.than])?;
+            code.extend_from_slice(&[WHILE_INPUT, test.cmp as u64, test.than])?;
             write_code(alloc, s, code)
         }
         Term::WhileOutput(s, pick, test) => {
-            code.extend_from_slice(&[15, pick_word(*pick), cmp_word(test.cmp), test.than])?;
+            code.extend_from_slice(&[WHILE_OUTPUT, *pick as u64, test.cmp as u64, test.than])?;
             write_code(alloc, s, code)
         }
         Term::Map(s, func) => {
-            code.extend_from_slice(&[16, func_word(*func), func_number(*func)])?;
+            code.extend_from_slice(&[MAP, func_word(*func), func_number(*func)])?;
             write_code(alloc, s, code)
         }
         Term::ResetWhen(s, pick, test) => {
-            code.extend_from_slice(&[17, pick_word(*pick), cmp_word(test.cmp), test.than])?;
+            code.extend_from_slice(&[RESET_WHEN, *pick as u64, test.cmp as u64, test.than])?;
             write_code(alloc, s, code)
         }
         Term::CollectAll(_) => Err(Refusal::KeepsList),
@@ -117,32 +121,6 @@ fn write_parts(
     code.extend_from_slice(&[tag, first.len() as u64, state])?;
     code.extend_from_slice(&first)?;
     Ok(state + write_code(alloc, b, code)?)
-}
-
-// Returns the word of a comparison.
-fn cmp_word(cmp: Cmp) -> u64
-    ensures value { result ≡ cmp_word cmp }
-{
-    match cmp {
-        Cmp::Lt => 0,
-        Cmp::Le => 1,
-        Cmp::Eq => 2,
-        Cmp::Ne => 3,
-        Cmp::Gt => 4,
-        Cmp::Ge => 5,
-    }
-}
-
-// Returns the word of what a test reads.
-fn pick_word(pick: Pick) -> u64
-    ensures value { result ≡ pick_word pick }
-{
-    match pick {
-        Pick::Whole => 0,
-        Pick::First => 1,
-        Pick::Second => 2,
-        Pick::Size => 3,
-    }
 }
 
 // Returns the word of a function.

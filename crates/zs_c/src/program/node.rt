@@ -2,10 +2,51 @@
 
 ghost use Rattle.std.specs.Prelude.{◌≡◌, take, drop};
 ghost use Rattle.zs_c.specs.Leaves.{word_at, new_leaf, rule_at};
-ghost use Rattle.zs_c.specs.Form.{sizes_at, cmp_of, test_of, pick_of, func_of, node_at};
+ghost use Rattle.zs_c.specs.Form.{cmp_of, test_of, pick_of, func_of, node_at};
 
 use zs_step::Leaf;
 use zs_term::{Cmp, Func, Pick, Test};
+
+/// The tags of nodes: the first word of a code.
+pub(crate) const FOREVER: u64 = 1;
+
+pub(crate) const IDENTITY: u64 = 2;
+
+pub(crate) const ELAPSED: u64 = 3;
+
+pub(crate) const RECURS: u64 = 4;
+
+pub(crate) const SPACED: u64 = 5;
+
+pub(crate) const FIXED: u64 = 6;
+
+pub(crate) const FIBONACCI: u64 = 7;
+
+pub(crate) const LINEAR: u64 = 8;
+
+pub(crate) const WINDOWED: u64 = 9;
+
+pub(crate) const EXPONENTIAL: u64 = 10;
+
+pub(crate) const BOTH: u64 = 11;
+
+pub(crate) const EITHER: u64 = 12;
+
+pub(crate) const AND_THEN: u64 = 13;
+
+pub(crate) const WHILE_INPUT: u64 = 14;
+
+pub(crate) const WHILE_OUTPUT: u64 = 15;
+
+pub(crate) const MAP: u64 = 16;
+
+pub(crate) const RESET_WHEN: u64 = 17;
+
+/// The words of an operator before its parts: its tag, and two words of its own.
+pub(crate) const HEAD: usize = 3;
+
+/// The same for `whileOutput` and `resetWhen`, which have three.
+pub(crate) const LONG_HEAD: usize = 4;
 
 // The sizes of an operator's first part: the number of words of its code, and of its state.
 #[derive(Clone, Copy)]
@@ -33,20 +74,19 @@ pub(crate) enum Form {
 pub(crate) fn read_node(code: &[u64]) -> Form
     ensures value { result ≡ node_at code.now }
 {
+    let (first, second, third) = (word(code, 1), word(code, 2), word(code, 3));
+    let sizes = Sizes {
+        code: first,
+        state: second,
+    };
     match word(code, 0) {
-        11 => Form::Both(read_sizes(code)),
-        12 => Form::Either(read_sizes(code)),
-        13 => Form::AndThen(read_sizes(code)),
-        14 => Form::WhileInput(read_test(word(code, 1), word(code, 2))),
-        15 => Form::WhileOutput(
-            read_pick(word(code, 1)),
-            read_test(word(code, 2), word(code, 3)),
-        ),
-        16 => Form::Map(read_func(word(code, 1), word(code, 2))),
-        17 => Form::ResetWhen(
-            read_pick(word(code, 1)),
-            read_test(word(code, 2), word(code, 3)),
-        ),
+        BOTH => Form::Both(sizes),
+        EITHER => Form::Either(sizes),
+        AND_THEN => Form::AndThen(sizes),
+        WHILE_INPUT => Form::WhileInput(read_test(first, second)),
+        WHILE_OUTPUT => Form::WhileOutput(read_pick(first), read_test(second, third)),
+        MAP => Form::Map(read_func(first, second)),
+        RESET_WHEN => Form::ResetWhen(read_pick(first), read_test(second, third)),
         _ => Form::Leaf(read_leaf(code)),
     }
 }
@@ -59,38 +99,38 @@ pub(crate) fn read_leaf(code: &[u64]) -> Leaf
 {
     let number = word(code, 1);
     match word(code, 0) {
-        2 => Leaf::Identity { last: 0 },
-        3 => Leaf::Elapsed {
+        IDENTITY => Leaf::Identity { last: 0 },
+        ELAPSED => Leaf::Elapsed {
             first: None,
             time: 0,
         },
-        4 => Leaf::Recurs {
+        RECURS => Leaf::Recurs {
             limit: number,
             before: None,
         },
-        5 => Leaf::Spaced {
+        SPACED => Leaf::Spaced {
             delay: number,
             before: None,
         },
-        6 => Leaf::Fixed {
+        FIXED => Leaf::Fixed {
             period: number,
             past: None,
             run: 0,
         },
-        7 => Leaf::Fibonacci {
+        FIBONACCI => Leaf::Fibonacci {
             one: number,
             last: 0,
             next: number,
         },
-        8 => Leaf::Linear {
+        LINEAR => Leaf::Linear {
             unit: number,
             last: 0,
         },
-        9 => Leaf::Windowed {
+        WINDOWED => Leaf::Windowed {
             period: number,
             past: None,
         },
-        10 => Leaf::Exponential {
+        EXPONENTIAL => Leaf::Exponential {
             base: number,
             factor: word(code, 2),
             last: number,
@@ -128,15 +168,14 @@ pub(crate) fn front(words: &[u64], size: usize) -> &[u64]
     }
 }
 
-// Reads the sizes after an operator's tag.
+// Returns the codes of both parts of an operator.
 #[inline(always)]
-fn read_sizes(code: &[u64]) -> Sizes
-    ensures value { result ≡ sizes_at code.now }
+pub(crate) fn split(code: &[u64], sizes: Sizes) -> (&[u64], &[u64])
+    ensures first { result.0.now ≡ take sizes.code (drop 3 code.now) }
+    ensures second { result.1.now ≡ drop sizes.code (drop 3 code.now) }
 {
-    Sizes {
-        code: word(code, 1),
-        state: word(code, 2),
-    }
+    let (rest, size) = (words_after(code, HEAD), sizes.code as usize);
+    (front(rest, size), words_after(rest, size))
 }
 
 // Reads a comparison with a number.

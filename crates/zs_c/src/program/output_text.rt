@@ -7,7 +7,7 @@ ghost use Rattle.zs_term.specs.OutputText.{output_text};
 ghost use Rattle.zs_c.specs.Rooms.{written_at};
 ghost use Rattle.zs_c.specs.View.{EndsPair, EndsSide, PlaceTells, PutsPair, PutsSide};
 
-use crate::program::node::{Form, read_node, word};
+use crate::program::node::{Form, HEAD, LONG_HEAD, read_node, word};
 use crate::program::outputs::{Place, View, part, parts, read_view};
 use crate::room::put_after;
 use itoa::Buffer;
@@ -30,8 +30,12 @@ pub(crate) fn put_output(place: Place<'_>, room: &mut [u8], at: usize) -> usize
             let (a, b) = parts(place, sizes, 0);
             put_pair(a, b, room, at)
         }
-        Form::WhileInput(_) => put_output(part(place, 3), room, at),
-        Form::WhileOutput(_, _) | Form::ResetWhen(_, _) => put_output(part(place, 4), room, at),
+        Form::WhileInput(_) => put_output(part(place, HEAD), room, at),
+        Form::WhileOutput(_, _) | Form::ResetWhen(_, _) => put_output(
+            part(place, LONG_HEAD),
+            room,
+            at,
+        ),
         Form::AndThen(_) | Form::Map(_) => match read_view(place) {
             View::Number(n) => put_number(n, room, at),
             View::Pair(a, b) => put_pair(a, b, room, at),

@@ -4,7 +4,9 @@ ghost use Rattle.std.specs.Prelude.{◌≡◌, ◌-◌, take, drop};
 ghost use Rattle.zs_term.specs.Output.{Output, number_in, picked, applied};
 ghost use Rattle.zs_c.specs.View.{Shows, PlaceTells, IsLower};
 
-use crate::program::node::{Form, Sizes, front, read_node, word, words_after};
+use crate::program::node::{
+    Form, HEAD, LONG_HEAD, Sizes, front, read_node, split, word, words_after,
+};
 use zs_term::{Func, Pick};
 
 // A node's code and the words of its state.
@@ -47,9 +49,9 @@ pub(crate) fn read_view(place: Place<'_>) -> View<'_>
                 View::Right(b)
             }
         }
-        Form::WhileInput(_) => read_view(part(place, 3)),
-        Form::WhileOutput(_, _) | Form::ResetWhen(_, _) => read_view(part(place, 4)),
-        Form::Map(func) => read_mapped(func, part(place, 3)),
+        Form::WhileInput(_) => read_view(part(place, HEAD)),
+        Form::WhileOutput(_, _) | Form::ResetWhen(_, _) => read_view(part(place, LONG_HEAD)),
+        Form::Map(func) => read_mapped(func, part(place, HEAD)),
     }
 }
 
@@ -104,16 +106,16 @@ pub(crate) fn parts(place: Place<'_>, sizes: Sizes, at: usize) -> (Place<'_>, Pl
     ensures first_levels { result.0.levels ≡ place.entry.levels - 1 }
     ensures second_levels { result.1.levels ≡ place.entry.levels - 1 }
 {
-    let (rest, words) = (words_after(place.code, 3), words_after(place.words, at));
-    let (size, state) = (sizes.code as usize, sizes.state as usize);
+    let (first, second) = split(place.code, sizes);
+    let (words, state) = (words_after(place.words, at), sizes.state as usize);
     let levels = place.levels.saturating_sub(1);
     let first = Place {
-        code: front(rest, size),
+        code: first,
         words: front(words, state),
         levels,
     };
     let second = Place {
-        code: words_after(rest, size),
+        code: second,
         words: words_after(words, state),
         levels,
     };

@@ -7,7 +7,7 @@ ghost use Rattle.zs_c.specs.View.{Tells};
 
 use crate::program::clearing::clear;
 use crate::program::leaf::{Step, step_leaf};
-use crate::program::node::{Form, Sizes, front, read_node, words_after};
+use crate::program::node::{Form, HEAD, LONG_HEAD, Sizes, read_node, split, words_after};
 use crate::program::outputs::{Place, read_number};
 use zs_step::Decision;
 use zs_term::{MAX_WEIGHT, Pick, Test};
@@ -41,17 +41,17 @@ pub(crate) fn step_code(
         }
         Form::AndThen(sizes) => step_and_then(code, words, sizes, levels - 1, step, visits),
         Form::WhileInput(test) => {
-            let decision = step_code(words_after(code, 3), words, levels - 1, step, visits);
+            let decision = step_code(words_after(code, HEAD), words, levels - 1, step, visits);
             decision.only_if(test.passes(step.input))
         }
         Form::WhileOutput(pick, test) => {
-            let part = words_after(code, 4);
+            let part = words_after(code, LONG_HEAD);
             let decision = step_code(part, words, levels - 1, step, visits);
             decision.only_if(has_passed(part, words, levels - 1, pick, test))
         }
-        Form::Map(_) => step_code(words_after(code, 3), words, levels - 1, step, visits),
+        Form::Map(_) => step_code(words_after(code, HEAD), words, levels - 1, step, visits),
         Form::ResetWhen(pick, test) => {
-            let part = words_after(code, 4);
+            let part = words_after(code, LONG_HEAD);
             let decision = step_code(part, words, levels - 1, step, visits);
             if !has_passed(part, words, levels - 1, pick, test) {
                 return decision;
@@ -89,22 +89,13 @@ fn step_parts(
     ensures steps { StepsParts sizes code.now levels words.old words.new step.now visits.old
         visits.new result }
 {
-    let (rest, size, state) = (
-        words_after(code, 3),
-        sizes.code as usize,
-        sizes.state as usize,
-    );
+    let (first, second) = split(code, sizes);
+    let state = sizes.state as usize;
     if words.len() < state {
         return (Decision::Stop, Decision::Stop);
     }
-    let x = step_code(front(rest, size), &mut words[..state], levels, step, visits);
-    let y = step_code(
-        words_after(rest, size),
-        &mut words[state..],
-        levels,
-        step,
-        visits,
-    );
+    let x = step_code(first, &mut words[..state], levels, step, visits);
+    let y = step_code(second, &mut words[state..], levels, step, visits);
     (x, y)
 }
 
@@ -122,29 +113,19 @@ fn step_and_then(
     ensures steps { StepsInTurn sizes code.now levels words.old words.new step.now visits.old
         visits.new result }
 {
-    let (rest, size, state) = (
-        words_after(code, 3),
-        sizes.code as usize,
-        sizes.state as usize,
-    );
+    let (first, second) = split(code, sizes);
+    let state = sizes.state as usize;
     if words.len() <= state {
         return Decision::Stop;
     }
-    let second = state + 1;
+    let begin = state + 1;
     if words[0] == 0 {
-        let first = front(rest, size);
-        let x = step_code(first, &mut words[1..second], levels, step, visits);
+        let x = step_code(first, &mut words[1..begin], levels, step, visits);
         if let Decision::Next(_) = x {
             return x;
         }
         words[0] = 1;
-        clear(first, &mut words[1..second], levels);
+        clear(first, &mut words[1..begin], levels);
     }
-    step_code(
-        words_after(rest, size),
-        &mut words[second..],
-        levels,
-        step,
-        visits,
-    )
+    step_code(second, &mut words[begin..], levels, step, visits)
 }

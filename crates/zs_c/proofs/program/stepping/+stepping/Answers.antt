@@ -1,4 +1,4 @@
-use Rattle.std.proofs.Common.{◌+◌, refl, take, drop, ap, ◌∙◌}
+use Rattle.std.proofs.Common.{◌+◌, refl, ap}
 use Rattle.zs_step.specs.Answer.{is_next}
 use Rattle.zs_term.specs.Schedule.{max_weight}
 use Rattle.zs_c.specs.declared.program.node.Sizes.{Sizes}
@@ -17,8 +17,7 @@ step_and_then-returns-in-Next t c = record {
   steps = λ a b h parts room held.
       let x = c.step_code-x in
       let n = c.args.sizes.state in
-      let size = c.args.sizes.code in
-      let front = code-at a c.front-first.result.now _ c.args.levels (c.front-first.ensures.value ∙ ap (λ z. take size z) c.words_after-rest.ensures.value) parts.first in
+      let front = code-at a c.split.result.0.now _ c.args.levels c.split.ensures.first parts.first in
       then-goes a b h c.args.words.now x.new.words c.args.step.now.moment c.args.step.now.input n x.result c.args.visits.now x.new.visits max_weight
       (ap (λ (z : Sizes). z.state) parts.sizes) held room c.if-words-eq0.true (λ e r. x.ensures.steps a h front r e) (ap is_next c.in-Next.is);
 }
@@ -28,14 +27,12 @@ step_and_then-returns t c = record {
   steps = λ a b h parts room held.
       let y = c.step_code in
       let n = c.args.sizes.state in
-      let size = c.args.sizes.code in
       let sized = ap (λ (z : Sizes). z.state) parts.sizes in
-      let rest = c.words_after-rest.ensures.value in
-      let behind = code-at b c.words_after.result.now _ c.args.levels (c.words_after.ensures.value ∙ ap (λ z. drop size z) rest) parts.second in
+      let front = code-at a c.split.result.0.now _ c.args.levels c.split.ensures.first parts.first in
+      let behind = code-at b c.split.result.1.now _ c.args.levels c.split.ensures.second parts.second in
       elim c.if-words-eq0.branch [
         | step_and_then-then-words-eq0+in_default w ↦
             let x = w.step_code-x in
-            let front = code-at a w.front-first.result.now _ c.args.levels (w.front-first.ensures.value ∙ ap (λ z. take size z) rest) parts.first in
             then-done a b h c.args.words.now x.new.words w.clear.new.words c.if-words-eq0.words y.new.words c.args.step.now.moment c.args.step.now.input n x.result y.result
             c.args.visits.now x.new.visits c.if-words-eq0.visits y.new.visits max_weight sized held room w.if-words-eq0.true (λ e r. x.ensures.steps a h front r e)
             (stops x.result (λ m e. w.in_default.not-Next m e)) (w.clear.ensures.clears a front) w.words-is w.visits-is (λ g e r. y.ensures.steps b g behind r e)
@@ -140,10 +137,8 @@ step_parts-returns t c = record {
       let x = c.step_code-x in
       let y = c.step_code-y in
       let n = c.args.sizes.state in
-      let size = c.args.sizes.code in
-      let rest = c.words_after-rest.ensures.value in
-      let front = code-at a c.front.result.now _ c.args.levels (c.front.ensures.value ∙ ap (λ z. take size z) rest) parts.first in
-      let behind = code-at b c.words_after.result.now _ c.args.levels (c.words_after.ensures.value ∙ ap (λ z. drop size z) rest) parts.second in
+      let front = code-at a c.split.result.0.now _ c.args.levels c.split.ensures.first parts.first in
+      let behind = code-at b c.split.result.1.now _ c.args.levels c.split.ensures.second parts.second in
       parts-steps a b h c.args.words.now x.new.words y.new.words c.args.step.now.moment c.args.step.now.input n x.result y.result
       c.args.visits.now x.new.visits y.new.visits max_weight (ap (λ (z : Sizes). z.state) parts.sizes) held room
       (λ e r. x.ensures.steps a h front r e)
