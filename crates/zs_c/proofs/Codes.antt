@@ -12,14 +12,12 @@ use Rattle.zs_step.specs.Answer.{answer_of, from_done, since_reset}
 use Rattle.zs_c.specs.Code.{code_of, modifier_code, held_of, held_size, IsCode}
 use Rattle.zs_c.specs.Program.{IsProgram, body_of, check_word}
 use Rattle.zs_c.proofs.Leaves.{leaf-length}
-use Rattle.zs_c.proofs.Listless.{two-flat, over-flat}
 
 -- the code of an operator's first part
 pub first-code : (p : Pairing) (a b : Schedule) (code : List ℕ) (levels size : ℕ) → IsCode (two p a b) code levels → size ≡ length (code_of a) →
     IsCode a (take size (drop 3 code)) (levels - 1)
 first-code p a b code levels size whole sized = record {
   is = ap (λ n. take n (drop 3 code)) sized ∙ ap (λ c. take (length (code_of a)) (drop 3 c)) whole.is ∙ take-append_seam (code_of a) (code_of b);
-  flat = (two-flat p a b whole.flat).0;
   deep = omega (arith, whole.deep);
 }
 
@@ -28,7 +26,6 @@ pub second-code : (p : Pairing) (a b : Schedule) (code : List ℕ) (levels size 
     IsCode b (drop size (drop 3 code)) (levels - 1)
 second-code p a b code levels size whole sized = record {
   is = ap (λ n. drop n (drop 3 code)) sized ∙ ap (λ c. drop (length (code_of a)) (drop 3 c)) whole.is ∙ drop-append_seam (code_of a) (code_of b);
-  flat = (two-flat p a b whole.flat).1;
   deep = omega (arith, whole.deep);
 }
 
@@ -37,7 +34,6 @@ pub part-code : (m : Modifier) (s : Schedule) (code : List ℕ) (levels k : ℕ)
     IsCode s (drop k code) (levels - 1)
 part-code m s code levels k whole sized = record {
   is = ap (λ n. drop n code) sized ∙ ap (drop (length (modifier_code m))) whole.is ∙ drop-append_seam (modifier_code m) (code_of s);
-  flat = over-flat m s whole.flat;
   deep = omega (arith, whole.deep);
 }
 
@@ -62,7 +58,7 @@ held-length (two and_then a b) h g =
     sequel-lengths (from_done (answer_of a) h) (from_done (answer_of a) g) (held_of a) (held_of b) h g (held-length a) (held-length b)
 held-length (over s (while_input t)) h g = held-length s h g
 held-length (over s (while_output k t)) h g = held-length s h g
-held-length (over s collect_all) h g = held-length s h g
+held-length (over s collect_all) h g = ap (λ n. suc (suc n)) (held-length s h g)
 held-length (over s (mapped f)) h g = held-length s h g
 held-length (over s (reset_when k t)) h g = held-length s (since_reset (answer_of s) k t h) (since_reset (answer_of s) k t g)
 

@@ -7,6 +7,7 @@ pub mod StepLemmas
 pub mod ViewLemmas
 pub mod Uniqueness
 pub mod Listless
+pub mod Counts
 pub mod TextBounds
 pub mod Pieces
 pub mod Views

@@ -13,6 +13,7 @@ use Rattle.zs_c.specs.Code.{held_of, held_size}
 use Rattle.zs_c.specs.Leaves.{word_at}
 use Rattle.zs_c.specs.Steps.{StepsCode, StepsBoth, StepsThen}
 use Rattle.zs_c.proofs.Codes.{held-length}
+use Rattle.zs_c.proofs.Counts.{done-shorter}
 use Rattle.zs_c.proofs.Pieces.{parts-second-all, parts-new, then-first-arg, then-first-new, then-second-arg, then-second-new}
 use Rattle.zs_c.proofs.StepLemmas.{first-held, first-is-on, second-is-on, then-goes-on, then-turns, then-second}
 
@@ -77,7 +78,7 @@ pub then-done : (a b : Schedule) (h : History) (ws xn cn words yn : List ℕ) (n
     (take (n + 1 - 1) (drop 1 ws) ≡ held_of a h → before + weight a ≤ most → StepsCode a h xn now input x before between) → is_next x ≡ false →
     (length (take (n + 1 - 1) (drop 1 (slice_set (put_mid 1 (n + 1 - 1) ws xn) 0 1))) ≡ held_size a → cn ≡ held_of a []) →
     words ≡ put_mid 1 (n + 1 - 1) (slice_set (put_mid 1 (n + 1 - 1) ws xn) 0 1) cn → joined ≡ between →
-    ((g : History) → take (length words - (n + 1)) (drop (n + 1) words) ≡ held_of b g → joined + weight b ≤ most → StepsCode b g yn now input d joined after) →
+    ((g : History) → length g ≤ length h → take (length words - (n + 1)) (drop (n + 1) words) ≡ held_of b g → joined + weight b ≤ most → StepsCode b g yn now input d joined after) →
     StepsThen a b h (put_mid (n + 1) (length words - (n + 1)) words yn) now input d before after
 then-done a b h ws xn cn words yn now input n x d before between joined after most sized held room zeroed first stop clears is same second =
     let on = first-is-on (from_done (answer_of a) h) (held_of a) (held_of b) h ws held zeroed in
@@ -90,20 +91,20 @@ then-done a b h ws xn cn words yn now input n x d before between joined after mo
     let there : words ≡ 1 ∷ (cn ++ held_of b []) = is ∙ then-first-new marked xn (held_of b []) cn 1 n mark kept in
     let long : n ≡ length cn = sized ∙ sym (ap length cleared) in
     let left : joined + weight b ≤ most = omega (arith, room, same, p.visited, visits-le a ((now, input) ∷ h)) in
-    let q = from-same b [] yn now input d joined between after same (second [] (then-second-arg words cn (held_of b []) 1 n there long) left) in
+    let q = from-same b [] yn now input d joined between after same (second [] (omega arith) (then-second-arg words cn (held_of b []) 1 n there long) left) in
     then-turns a b h xn yn (put_mid (n + 1) (length words - (n + 1)) words yn) now input x d before between after on.0 p stop q
     (then-second-new words cn (held_of b []) yn 1 n there long ∙ ap (λ (z : List ℕ). 1 ∷ (z ++ yn)) cleared)
 
 -- the second part is active
 pub then-on : (a b : Schedule) (h : History) (ws words yn : List ℕ) (now input n : ℕ) (d : Decision) (before joined after most : ℕ) →
     n ≡ held_size a → ws ≡ held_of (two and_then a b) h → before + weight a + weight b ≤ most → (word_at ws 0 ≡ 0 → ⊥) → words ≡ ws → joined ≡ before →
-    ((g : History) → take (length words - (n + 1)) (drop (n + 1) words) ≡ held_of b g → joined + weight b ≤ most → StepsCode b g yn now input d joined after) →
+    ((g : History) → length g ≤ length h → take (length words - (n + 1)) (drop (n + 1) words) ≡ held_of b g → joined + weight b ≤ most → StepsCode b g yn now input d joined after) →
     StepsThen a b h (put_mid (n + 1) (length words - (n + 1)) words yn) now input d before after
 then-on a b h ws words yn now input n d before joined after most sized held room other is same second =
     let on = second-is-on (from_done (answer_of a) h) (held_of a) (held_of b) h ws held other in
     let g = on.0 in
     let there : words ≡ 1 ∷ (held_of a [] ++ held_of b g) = is ∙ on.2 in
     let left : joined + weight b ≤ most = omega (arith, room, same) in
-    let q = from-same b g yn now input d joined before after same (second g (then-second-arg words (held_of a []) (held_of b g) 1 n there sized) left) in
+    let q = from-same b g yn now input d joined before after same (second g (done-shorter (answer_of a) h g on.1) (then-second-arg words (held_of a []) (held_of b g) 1 n there sized) left) in
     then-second a b h g yn (put_mid (n + 1) (length words - (n + 1)) words yn) now input d before after on.1 q
     (then-second-new words (held_of a []) (held_of b g) yn 1 n there sized)

@@ -1,5 +1,5 @@
 -- Words that are written in pieces.
-use Rattle.std.proofs.Common.{◌≡◌, ℕ, zero, suc, ◌+◌, ◌-◌, ◌≤◌, List, [], ◌∷◌, ◌++◌, length, take, drop, length-drop, add-one, refl, sym, ap, ◌∙◌, arith}
+use Rattle.std.proofs.Common.{◌≡◌, ℕ, zero, suc, ◌+◌, ◌-◌, ◌≤◌, List, [], ◌∷◌, ◌++◌, length, take, drop, get_or, length-drop, add-one, refl, sym, ap, ◌∙◌, arith}
 use Rattle.std.specs.Prelude.{slice_set}
 use Rattle.std.proofs.Math.Seq.{take-append_seam, drop-append_seam}
 use borrow.Rule.Slice.PartMut.{put_mid}
@@ -38,6 +38,34 @@ put-behind-first (x ∷ ws) rest w some = put-rest 1 (length (w ∷ ws) - 1) (w 
 pub length-behind-first : (ws : List ℕ) (w n : ℕ) → length ws ≡ suc n → length (take (length (slice_set ws 0 w) - 1) (drop 1 (slice_set ws 0 w))) ≡ n
 length-behind-first [] w n sized = absurd (omega (arith, sized))
 length-behind-first (x ∷ ws) w n sized = ap length (take-whole (length (w ∷ ws) - 1) ws (omega arith)) ∙ omega (arith, sized)
+
+-- the same for the first two words
+pub put-behind-two : (ws rest : List ℕ) → 2 ≤ length ws → put_mid 2 (length (slice_set (slice_set ws 0 0) 1 0) - 2) (slice_set (slice_set ws 0 0) 1 0) rest ≡ 0 ∷ (0 ∷ rest)
+put-behind-two [] rest some = absurd (omega (arith, some))
+put-behind-two (x ∷ []) rest some = absurd (omega (arith, some))
+put-behind-two (x ∷ (y ∷ ws)) rest some = put-rest 2 (length (0 ∷ (0 ∷ ws)) - 2) (0 ∷ (0 ∷ ws)) rest (omega arith)
+
+pub length-behind-two : (ws : List ℕ) (n : ℕ) → length ws ≡ suc (suc n) →
+    length (take (length (slice_set (slice_set ws 0 0) 1 0) - 2) (drop 2 (slice_set (slice_set ws 0 0) 1 0))) ≡ n
+length-behind-two [] n sized = absurd (omega (arith, sized))
+length-behind-two (x ∷ []) n sized = absurd (omega (arith, sized))
+length-behind-two (x ∷ (y ∷ ws)) n sized = ap length (take-whole (length (0 ∷ (0 ∷ ws)) - 2) ws (omega arith)) ∙ omega (arith, sized)
+
+-- the words after the first two, and all words with others in their place
+pub list-arg : (ws xs : List ℕ) (a b : ℕ) → ws ≡ a ∷ (b ∷ xs) → take (length ws - 2) (drop 2 ws) ≡ xs
+list-arg ws xs a b is = ap (λ (v : List ℕ). take (length v - 2) (drop 2 v)) is ∙ take-whole (length (a ∷ (b ∷ xs)) - 2) xs (omega arith)
+
+pub list-kept : (ws xs xn : List ℕ) (a b : ℕ) → ws ≡ a ∷ (b ∷ xs) → get_or (put_mid 2 (length ws - 2) ws xn) 1 0 ≡ b
+list-kept ws xs xn a b is = ap (λ (v : List ℕ). get_or (put_mid 2 (length v - 2) v xn) 1 0) is
+
+pub list-set : (ws xs xn : List ℕ) (a b c : ℕ) → ws ≡ a ∷ (b ∷ xs) → get_or (slice_set (put_mid 2 (length ws - 2) ws xn) 0 c) 1 0 ≡ b
+list-set ws xs xn a b c is = ap (λ (v : List ℕ). get_or (slice_set (put_mid 2 (length v - 2) v xn) 0 c) 1 0) is
+
+pub list-new : (ws xs xn : List ℕ) (a b c d : ℕ) → ws ≡ a ∷ (b ∷ xs) → slice_set (slice_set (put_mid 2 (length ws - 2) ws xn) 0 c) 1 d ≡ c ∷ (d ∷ xn)
+list-new ws xs xn a b c d is =
+    let all = a ∷ (b ∷ xs) in
+    ap (λ (v : List ℕ). slice_set (slice_set (put_mid 2 (length v - 2) v xn) 0 c) 1 d) is
+    ∙ ap (λ (v : List ℕ). slice_set (slice_set v 0 c) 1 d) (put-rest 2 (length all - 2) all xn (omega arith))
 
 -- the first of two pieces, and the second once the first is overwritten
 pub parts-second : (ws xs ys xn : List ℕ) (n : ℕ) → ws ≡ xs ++ ys → n ≡ length xs → length xn ≡ n → drop n (xn ++ drop n ws) ≡ ys

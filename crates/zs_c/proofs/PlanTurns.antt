@@ -145,10 +145,10 @@ pub turn-planned : (o : Option ℕ) (t : Schedule) (turn : Turn) (now : ℕ) (ol
     number begin
 turn-planned o t turn now old mid d count number begin is stepped plans numbered begins =
     record {
-      plan = λ h planned k.
+      plan = λ h planned k all.
           turn-told o t turn h planned now mid d count number begin
           (is ∙ ap (λ w. moment_of w turn) (planned-word t h planned old k))
-          (stepped.tells h planned k) (stepped.state h planned k) plans numbered begins;
+          (stepped.tells h planned k all) (stepped.state h planned k all) plans numbered begins;
       behind = after-plan o (held_size t) mid ∙ stepped.behind;
     }
 

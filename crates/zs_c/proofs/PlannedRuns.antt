@@ -18,6 +18,7 @@ use Rattle.zs_bounds.specs.Bounds.{Promises}
 use Rattle.zs_c.specs.declared.turn.Turn.{Turn}
 use Rattle.zs_c.specs.Plan.{end_of, moment_of, asked_of, begin_of, plan_of, plan_number, plan_begin, plan_after, step_of, IsFair}
 use Rattle.zs_c.specs.Planned.{IsCounted, Allows, FollowsDriver, punctual, LetsBeginAt, IsPlanned, StaysWithin}
+use Rattle.zs_c.specs.Shown.{IsCountable}
 use Rattle.zs_c.proofs.Planning.{fair-begin}
 use Rattle.zs_c.proofs.Running.{at-most}
 
@@ -319,6 +320,30 @@ planned-on t d h planned turn number begin (Some n) allows fits was keeps plans 
     allows fits was keeps refl plans)
 
 -- the headline
+-- a decision lets an attempt end only later
+ends-later : (d : Driver) (now m : ℕ) (x : Decision) → LetsEndAt d now x m → now < m
+ends-later d now m Stop lets = absurd lets
+ends-later d now m (Next x) lets = omega (arith, lets.1.1.least)
+
+-- so a driver makes no more steps than its clock counts
+driven-few : (t : Schedule) (d : Driver) (p : ℕ × ℕ) (h : History) → IsDriven t d (p ∷ h)
+    → length h ≤ p.0
+driven-few t d p [] driven = omega arith
+driven-few t d p (q ∷ h) driven =
+    omega (arith, driven-few t d q h driven.2, ends-later d q.0 p.0 _ driven.1)
+
+driven-tick : (t : Schedule) (d : Driver) (p : ℕ × ℕ) (h : History) → IsDriven t d (p ∷ h)
+    → p.0 ≤ 999999999999999
+driven-tick t d p [] driven = driven.tick
+driven-tick t d p (q ∷ h) driven = driven.0.tick
+
+-- the sizes of lists after the steps of a loop fit 64 bits
+pub planned-countable : (t : Schedule) (d : Driver) (h : History) (planned : ℕ)
+    → IsPlanned t d h planned → IsCountable t h
+planned-countable t d [] planned was kept = omega arith
+planned-countable t d (p ∷ h) planned was kept =
+    omega (arith, driven-few t d p h was.so_far.0, driven-tick t d p h was.so_far.0)
+
 pub stays-within : (t : Schedule) (d : Driver) (h : History) (planned : ℕ) (turn : Turn)
     (number begin : ℕ) (o : Option ℕ) → Allows d turn
     → IsCounted turn → IsPlanned t d h planned → FollowsDriver d h planned turn

@@ -16,9 +16,10 @@ use Rattle.zs_c.specs.Code.{IsCode, code_of, held_of, held_size}
 use Rattle.zs_c.specs.Opened.{Opens}
 use Rattle.zs_c.specs.Program.{program_check, has_stepped, KeepsProgramState}
 use Rattle.zs_c.specs.Programs.{IsProgramStepped, IsStepSafe}
+use Rattle.zs_c.specs.Shown.{IsCountable, shows_no_list}
 use Rattle.zs_c.specs.Steps.{StepsCode}
 use Rattle.zs_c.proofs.Codes.{held-length}
-use Rattle.zs_c.proofs.TextBounds.{AllFit, text-bound}
+use Rattle.zs_c.proofs.TextBounds.{AllFit, shown-bound}
 
 -- each part of a true conjunction
 and-first : (a b : Bool) → (a && b) ≡ true → a ≡ true
@@ -45,7 +46,7 @@ weight-within t within =
 -- the code of an opened program
 pub opened-code : (o : Opened) (t : Schedule) → Opens o t → IsCode t o.code.now 64
 opened-code o t opens =
-    record { is = opens.code; flat = opens.flat; deep = depth-within t opens.within }
+    record { is = opens.code; deep = depth-within t opens.within }
 
 -- words that fit 64 bits, each by its index
 abbrev pub EachFits : List ℕ → Type 0
@@ -57,12 +58,12 @@ all-fit (w ∷ ws) each = (omega (arith, each 0), all-fit ws (λ i. each (suc i)
 
 -- the text of an output is short
 pub short-text : (t : Schedule) (h : History) (code words : List ℕ) → IsCode t code 64
-    → weight t ≤ 1000 → words ≡ held_of t h → EachFits code → EachFits words →
+    → weight t ≤ 1000 → shows_no_list t ≡ true → words ≡ held_of t h → EachFits code → EachFits words →
     0 + length (output_text (answer_of t h).output) < 2 ^ 64
-short-text t h code words coded light held code_fits words_fit =
+short-text t h code words coded light free held code_fits words_fit =
     let first : AllFit (code_of t) = subst AllFit coded.is (all-fit code code_fits) in
     let second : AllFit (held_of t h) = subst AllFit held (all-fit words words_fit) in
-    omega (arith, text-bound t h coded.flat first second, light)
+    omega (arith, shown-bound t h free first second, light)
 
 -- the words of a state, after its check word, its last moment, its planned begin and its flag
 state-arg : (old xs more : List ℕ) (a b c d n : ℕ) → old ≡ a ∷ (b ∷ (c ∷ (d ∷ (xs ++ more))))
@@ -126,27 +127,27 @@ safe-words program (a ∷ (b ∷ (c ∷ (d ∷ rest)))) ys n now is fits sized =
 -- a step of the words of a state, and what it decides
 pub program-stepped : (t : Schedule) (old ys : List ℕ) (now input n visited : ℕ) (d : Decision) →
     n ≡ held_size t → n + 4 ≤ length old → length ys ≡ n →
-    ((h : History) → take (n + 4 - 4) (drop 4 old) ≡ held_of t h → StepsCode t h ys now input d 0
-    visited) →
+    ((h : History) → IsCountable t h → take (n + 4 - 4) (drop 4 old) ≡ held_of t h
+    → StepsCode t h ys now input d 0 visited) →
     IsProgramStepped t old (stepped_words n old ys now) (now, input) (decision_number d)
     (next_moment d) visited
 program-stepped t old ys now input n visited d sized fits kept step =
     let argued : (h : History) (planned : ℕ) → KeepsProgramState t h planned old
-    → StepsCode t h ys now input d 0 visited =
-    λ h planned k. step h (state-arg old (held_of t h) k.0 (program_check t) (last_moment h) planned
+    → IsCountable t h → StepsCode t h ys now input d 0 visited =
+    λ h planned k all. step h all (state-arg old (held_of t h) k.0 (program_check t) (last_moment h) planned
     (has_stepped h) n k.1 (sized ∙ held-length t [] h)) in
     record {
-      tells = λ h planned k. let s = argued h planned k in record {
+      tells = λ h planned k all. let s = argued h planned k all in record {
         decision = ap decision_number s.decides;
         next = ap next_moment s.decides;
         visited = omega (arith, s.visited);
       };
-      state = λ h planned k. (
+      state = λ h planned k all. (
         k.0,
         state-new old (held_of t h) k.0 ys (program_check t) (last_moment h) planned (has_stepped h)
             n now k.1 (sized ∙ held-length t [] h)
             ∙ ap (λ (z : List ℕ). program_check t ∷ (now ∷ (planned ∷ (1 ∷ (z ++ k.0)))))
-            (argued h planned k).held,
+            (argued h planned k all).held,
       );
       behind = ap (λ k. drop (suc (suc (suc (suc k)))) (stepped_words n old ys now)) (sym sized)
           ∙ state-behind n now old ys fits kept
@@ -162,15 +163,15 @@ arg-length n old fits = omega (arith, fits, length-take (n + 4 - 4) (drop 4 old)
 pub opened-stepped : (o : Opened) (t : Schedule) → Opens o t
     → (old ys : List ℕ) (now input visited : ℕ) (d : Decision) →
     o.state + 4 ≤ length old → length ys ≡ length (take (o.state + 4 - 4) (drop 4 old)) →
-    ((u : Schedule) (h : History) → IsCode u o.code.now 64 → 0 + weight u ≤ 1000 → take
-    (o.state + 4 - 4) (drop 4 old) ≡ held_of u h → StepsCode u h ys now input d 0 visited) →
+    ((u : Schedule) (h : History) → IsCode u o.code.now 64 → 0 + weight u ≤ 1000 → IsCountable u h
+    → take (o.state + 4 - 4) (drop 4 old) ≡ held_of u h → StepsCode u h ys now input d 0 visited) →
     IsProgramStepped t old (stepped_words o.state old ys now) (now, input) (decision_number d)
     (next_moment d) visited
 opened-stepped o t opens old ys now input visited d fits kept step =
     let light = weight-within t opens.within in
     program-stepped t old ys now input o.state visited d opens.state fits
     (kept ∙ arg-length o.state old fits)
-    (λ h arg. step t h (opened-code o t opens) (omega (arith, light)) arg)
+    (λ h all arg. step t h (opened-code o t opens) (omega (arith, light)) all arg)
 
 -- the same for any words
 pub opened-safe : (o : Opened) (program old ys : List ℕ) (now : ℕ)

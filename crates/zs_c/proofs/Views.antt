@@ -1,26 +1,26 @@
 -- A view shows the output that the words of a place represent, by the node of its code.
 use Rattle.std.proofs.Common.{◌≡◌, ◌⊎◌, ℕ, ◌-◌, List, take, drop, inl, inr, sym, ap, ◌∙◌, subst, arith}
-use Rattle.zs_term.specs.Output.{Output, number, number_in, applied, size_in}
-use Rattle.zs_term.specs.Schedule.{Schedule, leaf, two, over, both, either, and_then, while_input, while_output, mapped, reset_when}
+use Rattle.zs_term.specs.Output.{Output, number, number_in, applied}
+use Rattle.zs_term.specs.Schedule.{Schedule, leaf, two, over, both, either, and_then, while_input, while_output, collect_all, mapped, reset_when}
 use Rattle.zs_term.specs.declared.term.Test.{Test}
 use Rattle.zs_term.specs.declared.term.Pick.{Pick}
 use Rattle.zs_term.specs.declared.term.Func.{Func}
 use Rattle.zs_term.proofs.Sizes.{depth-positive}
 use Rattle.zs_step.specs.declared.leaf.Leaf.{Leaf}
 use Rattle.zs_step.specs.LeafState.{state_leaf}
-use Rattle.zs_step.specs.Answer.{answer_of, leaf_answer}
+use Rattle.zs_step.specs.History.{earlier}
+use Rattle.zs_step.specs.Answer.{answer_of, leaf_answer, collected}
 use Rattle.zs_c.specs.declared.program.node.Sizes.{Sizes}
 use Rattle.zs_c.specs.declared.program.node.Form.{Form}
-use Rattle.zs_c.specs.declared.program.node.Form.TheVariants.{Leaf as NodeLeaf, Both, Either, AndThen, WhileInput, WhileOutput, Map, ResetWhen}
+use Rattle.zs_c.specs.declared.program.node.Form.TheVariants.{Leaf as NodeLeaf, Both, Either, AndThen, WhileInput, WhileOutput, Map, ResetWhen, CollectAll}
 use Rattle.zs_c.specs.declared.program.outputs.Place.{Place}
-use Rattle.zs_c.specs.declared.program.outputs.View.TheVariants.{Pair, Left, Right}
+use Rattle.zs_c.specs.declared.program.outputs.View.TheVariants.{Pair, Left, Right, Size}
 use Rattle.zs_c.specs.Code.{IsCode, held_of}
 use Rattle.zs_c.specs.Form.{node_at, IsNode}
 use Rattle.zs_c.specs.Leaves.{word_at}
 use Rattle.zs_c.specs.View.{Tells, PlaceTells, Shows}
 use Rattle.zs_c.proofs.Leaves.{leaf-number}
 use Rattle.zs_c.proofs.Nodes.{read-node}
-use Rattle.zs_c.proofs.Listless.{answer-free, no-items}
 use Rattle.zs_c.proofs.ViewLemmas.{TellsParts, both-tells, either-tells, left-tells, right-tells, while_input-tells, while_output-tells, reset_when-tells, mapped-tells}
 
 -- the same for equal words
@@ -28,7 +28,7 @@ pub tells-at : (code other words others : List ℕ) (n m : ℕ) (o : Output) →
 tells-at code other words others n m o coded worded same t = record {
   term = t.term;
   history = t.history;
-  coded = record { is = coded ∙ t.coded.is; flat = t.coded.flat; deep = omega (arith, t.coded.deep, same) };
+  coded = record { is = coded ∙ t.coded.is; deep = omega (arith, t.coded.deep, same) };
   held = worded ∙ t.held;
   output = t.output;
 }
@@ -39,7 +39,7 @@ no-levels code words levels o none t = omega (arith, t.coded.deep, none, depth-p
 
 -- the node of a code is at the root of the schedule
 pub told-node : (code words : List ℕ) (levels : ℕ) (o : Output) (n m : Form) → n ≡ node_at code → n ≡ m → (t : Tells code words levels o) → IsNode m t.term
-told-node code words levels o n m read is t = subst (λ x. IsNode x t.term) is (read-node t.term code n read t.coded.is t.coded.flat)
+told-node code words levels o n m read is t = subst (λ x. IsNode x t.term) is (read-node t.term code n read t.coded.is)
 
 -- the same, for an equal schedule
 pub told-as : (code words : List ℕ) (levels : ℕ) (o : Output) (t : Tells code words levels o) (u : Schedule) → t.term ≡ u →
@@ -55,6 +55,14 @@ leaf-shows l code words levels w o n read is first t =
     let h = t.history in
     let same : word_at words 0 ≡ number_in (leaf_answer (state_leaf l) h).output = ap (λ x. word_at x 0) u.1 in
     u.2 ∙ leaf-number (state_leaf l) h ∙ ap number (sym (first ∙ same))
+
+-- the size of a list is the first word
+pub list-shows : (code words : List ℕ) (levels w : ℕ) (o : Output) (n : Form) → n ≡ node_at code → n ≡ CollectAll → w ≡ word_at words 0 →
+    Tells code words levels o → Shows (Size w) o
+list-shows code words levels w o n read is first t =
+    let node = told-node code words levels o n CollectAll read is t in
+    let u = told-as code words levels o t (over node.0 collect_all) node.1 in
+    (collected (answer_of node.0) (earlier t.history), u.2, first ∙ ap (λ x. word_at x 0) u.1)
 
 -- two places that are the parts of one, and whose words begin at an index
 pub record ArePartsOf (s : Sizes) (p a b : Place) (at : ℕ) : Type 0 where
@@ -165,7 +173,3 @@ mapped-part f p a o n read is part t =
     let w = mapped-tells node.0 f t.history p.code.now p.words.now p.levels o u.0 u.1 u.2 in
     let x = (answer_of node.0 t.history).output in
     (x, w.0, tells-at a.code.now (drop 3 p.code.now) a.words.now p.words.now a.levels (p.levels - 1) x part.code part.words part.levels w.1)
-
--- no output that words represent has items
-pub told-size : (code words : List ℕ) (levels : ℕ) (o : Output) → Tells code words levels o → size_in o ≡ 0
-told-size code words levels o t = ap size_in t.output ∙ no-items (answer_of t.term t.history).output (answer-free t.term t.history t.coded.flat)

@@ -2,8 +2,8 @@
 -- two schedules has the sizes of the first after its tag: the number of words of its code, and of
 -- its state. `one_schedule` of `src/program/laws.rt` states that words are the program of at most
 -- one schedule.
-use Rattle.std.specs.Prelude.{◌≡◌, ◌⊎◌, ℕ, ◌≤◌, true, false, List, [], ◌∷◌, ◌++◌, length}
-use Rattle.zs_term.specs.Output.{number_in}
+use Rattle.std.specs.Prelude.{◌≡◌, ℕ, ◌≤◌, List, [], ◌∷◌, ◌++◌, length}
+use Rattle.zs_term.specs.Output.{number_in, count}
 use Rattle.zs_term.specs.Schedule.{Schedule, leaf, two, over, Leaf, Pairing, both, either, and_then}
 use Rattle.zs_term.specs.Schedule.{Modifier, while_input, while_output, collect_all, mapped}
 use Rattle.zs_term.specs.Schedule.{reset_when, depth}
@@ -15,18 +15,16 @@ use Rattle.zs_term.specs.declared.term.Pick.TheVariants.{Second as PickSecond, S
 use Rattle.zs_term.specs.declared.term.Func.{Func}
 use Rattle.zs_term.specs.declared.term.Func.TheVariants.{First, Second, Size, Merge, Const, Add}
 use Rattle.zs_term.specs.declared.term.Func.TheVariants.{Mul}
-use Rattle.zs_step.specs.History.{History}
-use Rattle.zs_step.specs.Memory.{keeps_no_list}
-use Rattle.zs_step.specs.Answer.{answer_of, leaf_answer, from_done, since_reset}
+use Rattle.zs_step.specs.History.{History, earlier}
+use Rattle.zs_step.specs.Answer.{answer_of, leaf_answer, from_done, since_reset, collected}
 use Rattle.zs_c.specs.Words.{leaf_code, leaf_words, sequel_words}
-use Rattle.zs_c.specs.declared.refusal.Refusal.{Refusal}
-use Rattle.zs_c.specs.declared.refusal.Refusal.TheVariants.{KeepsList}
 
 -- the words of a leaf's state: its last output, and what the next step needs to know
 abbrev pub leaf_held : Leaf → History → List ℕ
 leaf_held l h = number_in (leaf_answer l h).output ∷ leaf_words l h
 
--- the words of a schedule's state
+-- The words of a schedule's state. In place of its list, `collectAll` has the size of the list, and
+-- that of the list which the next step shows.
 abbrev pub held_of : Schedule → History → List ℕ
 held_of (leaf l) h = leaf_held l h
 held_of (two both a b) h = held_of a h ++ held_of b h
@@ -34,7 +32,8 @@ held_of (two either a b) h = held_of a h ++ held_of b h
 held_of (two and_then a b) h = sequel_words (from_done (answer_of a) h) (held_of a) (held_of b) h
 held_of (over s (while_input t)) h = held_of s h
 held_of (over s (while_output k t)) h = held_of s h
-held_of (over s collect_all) h = held_of s h
+held_of (over s collect_all) h =
+    count (collected (answer_of s) (earlier h)) ∷ (count (collected (answer_of s) h) ∷ held_of s h)
 held_of (over s (mapped f)) h = held_of s h
 held_of (over s (reset_when k t)) h = held_of s (since_reset (answer_of s) k t h)
 
@@ -103,12 +102,7 @@ code_of (over s m) = modifier_code m ++ code_of s
 abbrev pub pair_code : ℕ → Schedule → Schedule → List ℕ
 pair_code tag a b = tag ∷ (length (code_of a) ∷ (held_size a ∷ (code_of a ++ code_of b)))
 
--- words are the code of a schedule that stores no list and is at most `levels` deep
+-- words are the code of a schedule that is at most `levels` deep
 pub record IsCode (t : Schedule) (code : List ℕ) (levels : ℕ) : Type 0 where
   pub is : code ≡ code_of t
-  pub flat : keeps_no_list t ≡ true
   pub deep : depth t ≤ levels
-
--- one of two schedules stores a list, if that is why they have no code
-abbrev pub ListsOne : Schedule → Schedule → Refusal → Type 0
-ListsOne a b why = why ≡ KeepsList → (keeps_no_list a ≡ false) ⊎ (keeps_no_list b ≡ false)

@@ -2,7 +2,7 @@
 -- proves that the code of a schedule is read as the form of its root.
 use Rattle.std.specs.Prelude.{◌≡◌, ℕ, ◌==◌, if◌then◌else◌, List, length, take, drop}
 use Rattle.zs_term.specs.Schedule.{Schedule, leaf, two, over, both, either, and_then, while_input}
-use Rattle.zs_term.specs.Schedule.{while_output, mapped, reset_when}
+use Rattle.zs_term.specs.Schedule.{while_output, collect_all, mapped, reset_when}
 use Rattle.zs_term.specs.declared.term.Cmp.{Cmp}
 use Rattle.zs_term.specs.declared.term.Cmp.TheVariants.{Lt, Le, Eq, Ne, Gt, Ge}
 use Rattle.zs_term.specs.declared.term.Test.{Test}
@@ -16,7 +16,7 @@ use Rattle.zs_c.specs.declared.program.node.Sizes.{Sizes}
 use Rattle.zs_c.specs.declared.program.node.Form.{Form}
 use Rattle.zs_c.specs.declared.program.node.Form.TheVariants.{Leaf, Both, Either, AndThen}
 use Rattle.zs_c.specs.declared.program.node.Form.TheVariants.{WhileInput, WhileOutput, Map}
-use Rattle.zs_c.specs.declared.program.node.Form.TheVariants.{ResetWhen}
+use Rattle.zs_c.specs.declared.program.node.Form.TheVariants.{ResetWhen, CollectAll}
 use Rattle.zs_step.specs.LeafState.{state_leaf}
 use Rattle.zs_c.specs.Leaves.{word_at, rule_at, new_leaf}
 use Rattle.zs_c.specs.Code.{code_of, held_size, IsCode}
@@ -61,7 +61,7 @@ node_at code =
     (if w == 16 then Map (func_of (word_at code 1) (word_at code 2)) else
     (if w == 17
     then ResetWhen (pick_of (word_at code 1)) (test_of (word_at code 2) (word_at code 3))
-    else Leaf (new_leaf (rule_at code))))))))
+    else (if w == 18 then CollectAll else Leaf (new_leaf (rule_at code)))))))))
 
 -- the sizes of an operator's first part
 abbrev pub sizes_of : Schedule → Sizes
@@ -77,6 +77,7 @@ IsNode (WhileInput x) t = (s : Schedule) × (t ≡ over s (while_input x))
 IsNode (WhileOutput k x) t = (s : Schedule) × (t ≡ over s (while_output k x))
 IsNode (Map f) t = (s : Schedule) × (t ≡ over s (mapped f))
 IsNode (ResetWhen k x) t = (s : Schedule) × (t ≡ over s (reset_when k x))
+IsNode CollectAll t = (s : Schedule) × (t ≡ over s collect_all)
 
 -- the sizes and the code of an operator are those of two schedules, each at most `levels` deep
 pub record IsParts (a b : Schedule) (n : Sizes) (code : List ℕ) (levels : ℕ) : Type 0 where

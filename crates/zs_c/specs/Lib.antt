@@ -5,6 +5,7 @@ pub mod Refusals
 pub mod Told
 pub mod Bounded
 pub mod FaultText
+pub mod Shown
 pub mod Code
 pub mod Program
 pub mod Programs

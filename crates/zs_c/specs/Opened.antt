@@ -5,10 +5,10 @@ use Rattle.zs_term.specs.Schedule.{Schedule, is_within_limits, weight, max_depth
 use Rattle.zs_step.specs.History.{History}
 use Rattle.zs_step.specs.Answer.{answer_of}
 use Rattle.zs_step.specs.declared.decision.Decision.{Decision}
-use Rattle.zs_step.specs.Memory.{keeps_no_list}
 use Rattle.zs_c.specs.declared.program.opening.Opened.{Opened}
 use Rattle.zs_c.specs.declared.program.leaf.Step.{Step}
 use Rattle.zs_c.specs.Code.{IsCode, code_of, held_of, held_size}
+use Rattle.zs_c.specs.Shown.{shows_no_list}
 use Rattle.zs_c.specs.Numbers.{decision_number, next_moment}
 use Rattle.zs_c.specs.Program.{program_check}
 use Rattle.zs_c.specs.Programs.{IsProgramStepped}
@@ -20,7 +20,6 @@ pub record Opens (o : Opened) (t : Schedule) : Type 0 where
   pub check : o.check ≡ program_check t
   pub state : o.state ≡ held_size t
   pub code : o.code.now ≡ code_of t
-  pub flat : keeps_no_list t ≡ true
   pub within : is_within_limits t ≡ true
 
 -- A decision and a number of visits are those of a step of every schedule that an opened program
@@ -35,8 +34,8 @@ abbrev pub PlansOpened : Opened → List ℕ → List ℕ → Turn → ℕ → �
 PlansOpened o old new turn number begin =
     (t : Schedule) → Opens o t → IsTurnPlanned t turn old new number begin
 
--- a fact holds of every output that words may represent
+-- a fact holds of every output that words may represent, if it shows no list
 abbrev pub OfEachOutput : List ℕ → List ℕ → (Output → Type 0) → Type 0
 OfEachOutput code words Holds =
     (t : Schedule) (h : History) → IsCode t code max_depth → weight t ≤ max_weight
-    → words ≡ held_of t h → Holds (answer_of t h).output
+    → shows_no_list t ≡ true → words ≡ held_of t h → Holds (answer_of t h).output

@@ -15,6 +15,7 @@ use Rattle.zs_c.specs.declared.program.denial.Denial.TheVariants.{NoStep, Falls,
 use Rattle.zs_c.specs.declared.program.denial.Denial.TheVariants.{NoProgram, OtherState, OtherSize}
 use Rattle.zs_c.specs.Program.{program_state, KeepsProgramState}
 use Rattle.zs_c.specs.Programs.{IsStepDenied}
+use Rattle.zs_c.specs.Shown.{IsCountable}
 
 -- milliseconds as nanoseconds
 abbrev pub nanos : ℕ → ℕ
@@ -120,11 +121,11 @@ pub record TellsPlan (t : Schedule) (h : History) (planned : ℕ) (turn : Turn) 
   pub kept : KeepsProgramState t (step_of planned turn ∷ h)
       (planned_after planned (plan_after t h planned turn)) new
 
--- This holds for each history and planned begin whose state the words were. Words after the state
--- are unchanged, whatever the words were.
+-- This holds for each history and planned begin whose state the words were, if 64 bits hold the
+-- sizes of lists. Words after the state are unchanged, whatever the words were.
 pub record IsTurnPlanned (t : Schedule) (turn : Turn) (old new : List ℕ) (number begin : ℕ) :
     Type 0 where
-  pub plan : (h : History) (planned : ℕ) → KeepsProgramState t h planned old
+  pub plan : (h : History) (planned : ℕ) → KeepsProgramState t h planned old → IsCountable t h
       → TellsPlan t h planned turn new number begin
   pub behind : drop (length (program_state t [] 0)) new ≡ drop (length (program_state t [] 0)) old
 

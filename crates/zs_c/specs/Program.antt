@@ -4,7 +4,6 @@ use Rattle.std.specs.Prelude.{◌≡◌, ℕ, ◌+◌, ◌*◌, ◌%◌, ◌^◌
 use Rattle.std.specs.Prelude.{length, take, drop, fold, slice_index_or}
 use Rattle.zs_term.specs.Schedule.{Schedule, is_within_limits}
 use Rattle.zs_step.specs.History.{History, last_moment}
-use Rattle.zs_step.specs.Memory.{keeps_no_list}
 use Rattle.zs_c.specs.declared.program.opening.TheConstants.{PROGRAM_VERSION, CHECK_START}
 use Rattle.zs_c.specs.declared.program.opening.TheConstants.{CHECK_FACTOR}
 use Rattle.zs_c.specs.Code.{code_of, held_of, held_size}
@@ -39,11 +38,10 @@ program_check t = check_word (body_of t)
 abbrev pub program_of : Schedule → List ℕ
 program_of t = PROGRAM_VERSION ∷ (program_check t ∷ body_of t)
 
--- words begin with the program of a schedule that stores no list and is within the limits of texts
+-- words begin with the program of a schedule that is within the limits of texts
 pub record IsProgram (program : List ℕ) (t : Schedule) : Type 0 where
   pub more : List ℕ
   pub is : program ≡ program_of t ++ more
-  pub flat : keeps_no_list t ≡ true
   pub within : is_within_limits t ≡ true
 
 -- 1 if a step was made, else 0

@@ -15,6 +15,7 @@ use Rattle.zs_c.specs.declared.refusal.Refusal.TheVariants.{NotUtf8, Memory, Kee
 use Rattle.zs_c.specs.declared.refusal.Refusal.TheVariants.{NoRoom as RefusalNoRoom, NoDriver}
 use Rattle.zs_c.specs.declared.refusal.Refusal.TheVariants.{OtherSize as RefusalOtherSize, Text}
 use Rattle.zs_c.specs.Refusals.{SpellsFlat, IsSizeRefusal}
+use Rattle.zs_c.specs.Shown.{IsCountable}
 use Rattle.zs_c.specs.Told.{TellsStep, TellsOutput}
 
 -- the number of a denial
@@ -121,14 +122,14 @@ pub record IsStepSafe (program old new : List ℕ) (now : ℕ) : Type 0 where
   pub moment : slice_index_or new 1 0 ≡ now
   pub behind : drop (slice_index_or program 3 0 + 4) new ≡ drop (slice_index_or program 3 0 + 4) old
 
--- The decision of one more step is returned, for each history whose state the words were. The new
--- words are the state after that step, with the same planned begin. Words after the state are
--- unchanged, whatever the words were.
+-- The decision of one more step is returned, for each history whose state the words were, if 64
+-- bits hold the sizes of lists. The new words are the state after that step, with the same planned
+-- begin. Words after the state are unchanged, whatever the words were.
 pub record IsProgramStepped (t : Schedule) (old new : List ℕ) (step : ℕ × ℕ)
     (number next visited : ℕ) : Type 0 where
-  pub tells : (h : History) (planned : ℕ) → KeepsProgramState t h planned old
+  pub tells : (h : History) (planned : ℕ) → KeepsProgramState t h planned old → IsCountable t h
       → TellsStep t (step ∷ h) number next visited
-  pub state : (h : History) (planned : ℕ) → KeepsProgramState t h planned old
+  pub state : (h : History) (planned : ℕ) → KeepsProgramState t h planned old → IsCountable t h
       → KeepsProgramState t (step ∷ h) planned new
   pub behind : drop (length (program_state t [] 0)) new ≡ drop (length (program_state t [] 0)) old
 

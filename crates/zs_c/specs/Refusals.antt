@@ -8,7 +8,7 @@ use Rattle.zs_term.specs.Verdict.{verdict_of}
 use Rattle.zs_c.specs.declared.refusal.Refusal.{Refusal}
 use Rattle.zs_c.specs.declared.refusal.Refusal.TheVariants.{NotUtf8, Memory, KeepsList}
 use Rattle.zs_c.specs.declared.refusal.Refusal.TheVariants.{NoRoom, NoDriver, OtherSize, Text}
-use Rattle.zs_step.specs.Memory.{keeps_no_list}
+use Rattle.zs_c.specs.Shown.{shows_no_list}
 
 -- the text spells a schedule
 abbrev pub SpellsSome : List ℕ → Type 0
@@ -25,18 +25,18 @@ IsTextRefusal text NoRoom = ⊥
 IsTextRefusal text NoDriver = ⊥
 IsTextRefusal text OtherSize = ⊥
 
--- the text spells a schedule that stores no list
+-- the text spells a schedule whose output shows no list
 pub record SpellsFlat (text : List ℕ) (t : Schedule) : Type 0 where
   pub spelled : SpellsSchedule text t
-  pub flat : keeps_no_list t ≡ true
+  pub flat : shows_no_list t ≡ true
 
--- the text spells a schedule that stores a list
+-- the text spells a schedule whose output shows a list
 pub record SpellsListed (text : List ℕ) : Type 0 where
   pub term : Schedule
   pub spelled : SpellsSchedule text term
-  pub listed : keeps_no_list term ≡ false
+  pub listed : shows_no_list term ≡ false
 
--- Why there is no program: the text is rejected; or it spells a schedule that stores a list.
+-- Why there is no program: the text is rejected; or it spells a schedule whose output shows a list.
 abbrev pub IsSizeRefusal : List ℕ → Refusal → Type 0
 IsSizeRefusal text KeepsList = SpellsListed text
 IsSizeRefusal text (NotUtf8 at) = IsTextRefusal text (NotUtf8 at)

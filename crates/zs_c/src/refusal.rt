@@ -15,7 +15,7 @@ pub(crate) enum Refusal {
     NotUtf8 { at: u64 },
     /// Memory ran out.
     Memory,
-    /// The schedule stores a list, which words can't represent.
+    /// The output shows a list, of which words store only the size.
     KeepsList,
     /// The words are fewer than the schedule's state has.
     NoRoom,

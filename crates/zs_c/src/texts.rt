@@ -12,7 +12,7 @@ pub(crate) fn fault_words(number: u32) -> &'static str
         3 => "the moment is below that of the step before it",
         4 => "not UTF-8",
         5 => "out of memory",
-        6 => "a schedule with collectAll has no state of fixed size",
+        6 => "an output with a list has no state of fixed size",
         7 => "the words are fewer than the state has",
         8 => "no program of this version, or one that was changed",
         9 => "the state of another program",

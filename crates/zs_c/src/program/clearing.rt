@@ -7,7 +7,9 @@ ghost use Rattle.zs_c.specs.Leaves.{ClearsLeaf};
 ghost use Rattle.zs_c.specs.Steps.{ClearsParts};
 
 use crate::program::leaf::store;
-use crate::program::node::{Form, HEAD, LONG_HEAD, Sizes, read_node, split, words_after};
+use crate::program::node::{
+    Form, HEAD, LONG_HEAD, SHORT_HEAD, Sizes, read_node, split, words_after,
+};
 use zs_step::Leaf;
 
 // Resets the words of a leaf that is as before any step.
@@ -33,6 +35,13 @@ pub(crate) fn clear(code: &[u64], words: &mut [u64], levels: u64)
             if !words.is_empty() {
                 words[0] = 0;
                 clear_parts(code, &mut words[1..], sizes, levels - 1);
+            }
+        }
+        Form::CollectAll => {
+            if words.len() >= 2 {
+                words[0] = 0;
+                words[1] = 0;
+                clear(words_after(code, SHORT_HEAD), &mut words[2..], levels - 1);
             }
         }
         Form::WhileInput(_) | Form::Map(_) => clear(words_after(code, HEAD), words, levels - 1),

@@ -2,30 +2,34 @@
 
 ghost use Rattle.std.specs.Prelude.{◌≡◌, ◌⊎◌, ◌+◌, ◌*◌, ◌≤◌, true, false, [], ◌++◌, length, IfOk, IfErr};
 ghost use Rattle.zs_term.specs.Schedule.{schedule_of, weight, max_weight};
-ghost use Rattle.zs_step.specs.Memory.{keeps_no_list};
-ghost use Rattle.zs_c.specs.Code.{ListsOne, code_of, held_of, held_size, pair_code, func_word, func_number};
+ghost use Rattle.zs_term.specs.OutputKind.{output_kind_of};
+ghost use Rattle.zs_c.specs.Shown.{has_no_list, shows_no_list};
+ghost use Rattle.zs_c.specs.Code.{code_of, held_of, held_size, pair_code, func_word, func_number};
 ghost use Rattle.zs_c.specs.Program.{program_of, program_state};
 ghost use Rattle.zs_c.specs.declared.refusal.Refusal.TheVariants.{Memory, KeepsList};
 
 use crate::program::node::{
-    AND_THEN, BOTH, EITHER, ELAPSED, EXPONENTIAL, FIBONACCI, FIXED, FOREVER, IDENTITY, LINEAR, MAP,
-    RECURS, RESET_WHEN, SPACED, WHILE_INPUT, WHILE_OUTPUT, WINDOWED,
+    AND_THEN, BOTH, COLLECT_ALL, EITHER, ELAPSED, EXPONENTIAL, FIBONACCI, FIXED, FOREVER, IDENTITY,
+    LINEAR, MAP, RECURS, RESET_WHEN, SPACED, WHILE_INPUT, WHILE_OUTPUT, WINDOWED,
 };
 use crate::program::opening::{PROGRAM_VERSION, check_word};
 use crate::refusal::Refusal;
 use std::alloc::Global;
-use zs_term::{Checked, Func, Term};
+use zs_term::{Checked, Func, Kind, Term};
 
-// Returns the program of a schedule, and the number of words of its state. Fails if the schedule
-// stores a list.
+// Returns the program of a schedule, and the number of words of its state. Fails if its output
+// shows a list.
 pub(crate) fn new_program(alloc: Global, checked: &Checked) -> Result<(Vec<u64>, u64), Refusal>
     ensures program { IfOk result (λ r. r.0.items ≡ program_of (schedule_of checked.now)) }
     ensures state { IfOk result (λ r. r.1 ≡ length (program_state (schedule_of checked.now) [] 0)) }
-    ensures flat { IfOk result (λ _. keeps_no_list (schedule_of checked.now) ≡ true) }
+    ensures shown { IfOk result (λ _. shows_no_list (schedule_of checked.now) ≡ true) }
     ensures err { IfErr result (λ why. (why ≡ Memory) ⊎ (why ≡ KeepsList)) }
     ensures listed { IfErr result (λ why. why ≡ KeepsList
-        → keeps_no_list (schedule_of checked.now) ≡ false) }
+        → shows_no_list (schedule_of checked.now) ≡ false) }
 {
+    if !has_no_list(checked.kind()) {
+        return Err(Refusal::KeepsList);
+    }
     let mut code = Vec::new(alloc);
     let state = write_code(alloc, checked.term(), &mut code)?;
     let mut body = Vec::new(alloc);
@@ -37,6 +41,17 @@ pub(crate) fn new_program(alloc: Global, checked: &Checked) -> Result<(Vec<u64>,
     Ok((program, state + 4))
 }
 
+// Whether outputs of a kind have no list in them.
+fn has_no_list(kind: &Kind) -> bool
+    ensures value { result ≡ has_no_list (output_kind_of kind.now) }
+{
+    match kind {
+        Kind::Num => true,
+        Kind::Pair(a, b) | Kind::Sum(a, b) => has_no_list(a) && has_no_list(b),
+        Kind::Items(_) => false,
+    }
+}
+
 // Appends the code of a term. Returns the number of words of the term's state.
 #[cycle(coding)]
 fn write_code(alloc: Global, term: &Term, code: &mut Vec<u64>) -> Result<u64, Refusal>
@@ -45,10 +60,7 @@ fn write_code(alloc: Global, term: &Term, code: &mut Vec<u64>) -> Result<u64, Re
         ≡ code.old.items ++ code_of (schedule_of term.now)) }
     ensures state { IfOk result (λ n. n ≡ held_size (schedule_of term.now)) }
     ensures bound { IfOk result (λ n. n ≤ 4 * weight (schedule_of term.now)) }
-    ensures flat { IfOk result (λ _. keeps_no_list (schedule_of term.now) ≡ true) }
-    ensures err { IfErr result (λ why. (why ≡ Memory) ⊎ (why ≡ KeepsList)) }
-    ensures listed { IfErr result (λ why. why ≡ KeepsList
-        → keeps_no_list (schedule_of term.now) ≡ false) }
+    ensures err { IfErr result (λ why. why ≡ Memory) }
 {
     match term {
         Term::Forever => write_leaf(&[FOREVER], 2, code),
@@ -73,14 +85,18 @@ fn write_code(alloc: Global, term: &Term, code: &mut Vec<u64>) -> Result<u64, Re
             write_code(alloc, s, code)
         }
         Term::Map(s, func) => {
-            code.extend_from_slice(&[MAP, func_word(*func), func_number(*func)])?;
+            let (word, number) = func_words(*func);
+            code.extend_from_slice(&[MAP, word, number])?;
             write_code(alloc, s, code)
         }
         Term::ResetWhen(s, pick, test) => {
             code.extend_from_slice(&[RESET_WHEN, *pick as u64, test.cmp as u64, test.than])?;
             write_code(alloc, s, code)
         }
-        Term::CollectAll(_) => Err(Refusal::KeepsList),
+        Term::CollectAll(s) => {
+            code.extend_from_slice(&[COLLECT_ALL])?;
+            Ok(2 + write_code(alloc, s, code)?)
+        }
     }
 }
 
@@ -111,10 +127,7 @@ fn write_parts(
         ≡ held_size (schedule_of a.now) + held_size (schedule_of b.now)) }
     ensures bound { IfOk result (λ n. n
         ≤ 4 * (weight (schedule_of a.now) + weight (schedule_of b.now))) }
-    ensures flat { IfOk result (λ _. (keeps_no_list (schedule_of a.now) ≡ true)
-        × (keeps_no_list (schedule_of b.now) ≡ true)) }
-    ensures err { IfErr result (λ why. (why ≡ Memory) ⊎ (why ≡ KeepsList)) }
-    ensures listed { IfErr result (ListsOne (schedule_of a.now) (schedule_of b.now)) }
+    ensures err { IfErr result (λ why. why ≡ Memory) }
 {
     let mut first = Vec::new(alloc);
     let state = write_code(alloc, a, &mut first)?;
@@ -123,27 +136,18 @@ fn write_parts(
     Ok(state + write_code(alloc, b, code)?)
 }
 
-// Returns the word of a function.
-fn func_word(func: Func) -> u64
-    ensures value { result ≡ func_word func }
+// Returns the word of a function, and its number, or 0.
+fn func_words(func: Func) -> (u64, u64)
+    ensures word { result.0 ≡ func_word func }
+    ensures number { result.1 ≡ func_number func }
 {
     match func {
-        Func::First => 0,
-        Func::Second => 1,
-        Func::Size => 2,
-        Func::Merge => 3,
-        Func::Const(_) => 4,
-        Func::Add(_) => 5,
-        Func::Mul(_) => 6,
-    }
-}
-
-// Returns the number of a function, or 0.
-fn func_number(func: Func) -> u64
-    ensures value { result ≡ func_number func }
-{
-    match func {
-        Func::First | Func::Second | Func::Size | Func::Merge => 0,
-        Func::Const(n) | Func::Add(n) | Func::Mul(n) => n,
+        Func::First => (0, 0),
+        Func::Second => (1, 0),
+        Func::Size => (2, 0),
+        Func::Merge => (3, 0),
+        Func::Const(n) => (4, n),
+        Func::Add(n) => (5, n),
+        Func::Mul(n) => (6, n),
     }
 }

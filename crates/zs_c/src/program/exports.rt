@@ -1,6 +1,6 @@
 //! The functions over programs that C calls.
 
-ghost use Rattle.std.specs.Prelude.{◌≡◌, ◌<◌, ◌≤◌, ℕ, length, slice_index_or};
+ghost use Rattle.std.specs.Prelude.{◌≡◌, ◌<◌, ◌≤◌, ℕ, true, length, slice_index_or};
 ghost use Rattle.zs_term.specs.Schedule.{Schedule};
 ghost use Rattle.zs_step.specs.History.{History};
 ghost use Rattle.zs_c.specs.Numbers.{decision_number, next_moment};
@@ -9,6 +9,7 @@ ghost use Rattle.zs_c.specs.Planned.{KeepsBounds};
 ghost use Rattle.zs_c.specs.Program.{IsChecked, IsProgram, KeepsProgramState};
 ghost use Rattle.zs_c.specs.Programs.{IsProgramSized, IsCompiled, IsCompileRefusal, IsUnfit, IsStepDenied, IsOutputDenied, IsDeniedFor, IsProgramBegun, IsProgramStepped, IsOutputTold, IsStepSafe};
 ghost use Rattle.zs_c.specs.Refusals.{IsSizeRefusal};
+ghost use Rattle.zs_c.specs.Shown.{IsCountable, shows_no_list};
 ghost use Rattle.zs_c.specs.Told.{IsRefusedFor};
 
 use crate::program::compiling::{fitting_program, sizes_in};
@@ -34,7 +35,7 @@ pub fn zs_program_size(
 ) -> u32
     ensures sized { result ≡ 0 → IsProgramSized text.now size.new state_size.new }
     ensures nowhere { result ≡ 0 → at.new ≡ 0 }
-    // Also for a schedule with a list, which has no program.
+    // Also for a schedule whose output shows a list, which has no program.
     ensures refused { 0 < result → IsRefusedFor (IsSizeRefusal text.now) result at.new }
     ensures nothing { 0 < result → (size.new ≡ 0) × (state_size.new ≡ 0) }
 {
@@ -54,7 +55,7 @@ pub fn zs_program_size(
 pub fn zs_compile(alloc: Global, text: &[u8], program: &mut [u64], at: &mut u64) -> u32
     ensures compiled { result ≡ 0 → IsCompiled text.now program.old program.new }
     ensures nowhere { result ≡ 0 → at.new ≡ 0 }
-    // Also for a schedule with a list, or if there are too few words for the program.
+    // Also for a schedule whose output shows a list, or if there are too few words for the program.
     ensures refused { 0 < result
         → IsRefusedFor (IsCompileRefusal text.now (length program.old)) result at.new }
     ensures kept { 0 < result → program.new ≡ program.old }
@@ -134,7 +135,8 @@ pub fn zs_program_step(
 /// the number of an error. After an error `out` is unchanged and `size` is 0. The call allocates no
 /// memory.
 pub fn zs_output(program: &[u64], state: &[u64], out: &mut [u8], size: &mut u64) -> u32
-    ensures told { result ≡ 0 → (t : Schedule) → IsProgram program.now t
+    // `zs_compile` writes no program whose output shows a list.
+    ensures told { result ≡ 0 → (t : Schedule) → IsProgram program.now t → shows_no_list t ≡ true
         → IsOutputTold t state.now out.old out.new size.new }
     ensures checked { result ≡ 0 → IsChecked program.now }
     // No program, too few words, another program's state, or no step.
@@ -176,7 +178,8 @@ pub fn zs_plan(program: &[u64], state: &mut [u64], turn: &Turn, begin: &mut u64)
     ensures planned { result ≤ 1 → (t : Schedule) → IsProgram program.now t
         → IsTurnPlanned t turn.now state.old state.new result begin.new }
     ensures fair { result ≡ 0 → (t : Schedule) (h : History) (planned : ℕ) → IsProgram program.now t
-        → KeepsProgramState t h planned state.old → BeginsFairly t h planned turn.now begin.new }
+        → KeepsProgramState t h planned state.old → IsCountable t h
+        → BeginsFairly t h planned turn.now begin.new }
     ensures bounded { result ≤ 1 → KeepsBounds program.now state.old turn.now result begin.new }
     ensures succeeds { (t : Schedule) (h : History) (planned : ℕ) → IsProgram program.now t
         → KeepsProgramState t h planned state.old → IsPlannable h planned turn.now → result ≤ 1 }

@@ -42,11 +42,16 @@ pub(crate) const MAP: u64 = 16;
 
 pub(crate) const RESET_WHEN: u64 = 17;
 
+pub(crate) const COLLECT_ALL: u64 = 18;
+
 /// The words of an operator before its parts: its tag, and two words of its own.
 pub(crate) const HEAD: usize = 3;
 
 /// The same for `whileOutput` and `resetWhen`, which have three.
 pub(crate) const LONG_HEAD: usize = 4;
+
+/// The same for `collectAll`, which has none.
+pub(crate) const SHORT_HEAD: usize = 1;
 
 // The sizes of an operator's first part: the number of words of its code, and of its state.
 #[derive(Clone, Copy)]
@@ -66,6 +71,7 @@ pub(crate) enum Form {
     WhileOutput(Pick, Test),
     Map(Func),
     ResetWhen(Pick, Test),
+    CollectAll,
 }
 
 // Reads the form of the node at the front of a code. Words that are no code are read as some form.
@@ -87,6 +93,7 @@ pub(crate) fn read_node(code: &[u64]) -> Form
         WHILE_OUTPUT => Form::WhileOutput(read_pick(first), read_test(second, third)),
         MAP => Form::Map(read_func(first, second)),
         RESET_WHEN => Form::ResetWhen(read_pick(first), read_test(second, third)),
+        COLLECT_ALL => Form::CollectAll,
         _ => Form::Leaf(read_leaf(code)),
     }
 }

@@ -5,43 +5,27 @@ ghost use Rattle.std.specs.Fmt.{decimal};
 ghost use Rattle.zs_term.specs.Output.{Output};
 ghost use Rattle.zs_term.specs.OutputText.{output_text};
 ghost use Rattle.zs_c.specs.Rooms.{written_at};
-ghost use Rattle.zs_c.specs.View.{EndsPair, EndsSide, PlaceTells, PutsPair, PutsSide};
+ghost use Rattle.zs_c.specs.View.{EndsPair, EndsSide, Listless, PlaceTells, PutsPair, PutsSide};
 
-use crate::program::node::{Form, HEAD, LONG_HEAD, read_node, word};
-use crate::program::outputs::{Place, View, part, parts, read_view};
+use crate::program::outputs::{Place, View, read_view};
 use crate::room::put_after;
 use itoa::Buffer;
 
 // Writes the text of the output of a node's last step to `room` from byte `at` on, as far as it
-// fits. Returns the index at which the text ends.
+// fits. Returns the index at which the text ends. A list has no text here.
 #[cycle(texts)]
 pub(crate) fn put_output(place: Place<'_>, room: &mut [u8], at: usize) -> usize
-    ensures text { (o : Output) → PlaceTells place.entry o → at + length (output_text o) < 2 ^ 64
-        → room.new ≡ written_at at (output_text o) room.old }
-    ensures end { (o : Output) → PlaceTells place.entry o → at + length (output_text o) < 2 ^ 64
-        → result ≡ at + length (output_text o) }
+    ensures text { (o : Output) → PlaceTells place.entry o → Listless o
+        → at + length (output_text o) < 2 ^ 64 → room.new ≡ written_at at (output_text o) room.old }
+    ensures end { (o : Output) → PlaceTells place.entry o → Listless o
+        → at + length (output_text o) < 2 ^ 64 → result ≡ at + length (output_text o) }
 {
-    if place.levels == 0 {
-        return at;
-    }
-    match read_node(place.code) {
-        Form::Leaf(_) => put_number(word(place.words, 0), room, at),
-        Form::Both(sizes) | Form::Either(sizes) => {
-            let (a, b) = parts(place, sizes, 0);
-            put_pair(a, b, room, at)
-        }
-        Form::WhileInput(_) => put_output(part(place, HEAD), room, at),
-        Form::WhileOutput(_, _) | Form::ResetWhen(_, _) => put_output(
-            part(place, LONG_HEAD),
-            room,
-            at,
-        ),
-        Form::AndThen(_) | Form::Map(_) => match read_view(place) {
-            View::Number(n) => put_number(n, room, at),
-            View::Pair(a, b) => put_pair(a, b, room, at),
-            View::Left(a) => put_side(b"Left(", a, room, at),
-            View::Right(b) => put_side(b"Right(", b, room, at),
-        },
+    match read_view(place) {
+        View::Number(n) => put_number(n, room, at),
+        View::Pair(a, b) => put_pair(a, b, room, at),
+        View::Left(a) => put_side(b"Left(", a, room, at),
+        View::Right(b) => put_side(b"Right(", b, room, at),
+        View::Size(_) => at,
     }
 }
 

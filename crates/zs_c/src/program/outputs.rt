@@ -1,8 +1,8 @@
 //! The output of a node's last step, read from the words of its state.
 
 ghost use Rattle.std.specs.Prelude.{◌≡◌, ◌-◌, take, drop};
-ghost use Rattle.zs_term.specs.Output.{Output, number_in, picked, applied};
-ghost use Rattle.zs_c.specs.View.{Shows, PlaceTells, IsLower};
+ghost use Rattle.zs_term.specs.Output.{Output, number_in, size_in, picked, applied};
+ghost use Rattle.zs_c.specs.View.{Shows, Tells, PlaceTells, IsLower};
 
 use crate::program::node::{
     Form, HEAD, LONG_HEAD, Sizes, front, read_node, split, word, words_after,
@@ -17,13 +17,14 @@ pub(crate) struct Place<'a> {
     pub(crate) levels: u64,
 }
 
-// An output: a number, or the places of its parts.
+// An output: a number, the places of its parts, or the size of a list.
 #[derive(Clone, Copy)]
 pub(crate) enum View<'a> {
     Number(u64),
     Pair(Place<'a>, Place<'a>),
     Left(Place<'a>),
     Right(Place<'a>),
+    Size(u64),
 }
 
 // Reads the output of a node's last step.
@@ -37,6 +38,7 @@ pub(crate) fn read_view(place: Place<'_>) -> View<'_>
     }
     match read_node(place.code) {
         Form::Leaf(_) => View::Number(word(place.words, 0)),
+        Form::CollectAll => View::Size(word(place.words, 0)),
         Form::Both(sizes) | Form::Either(sizes) => {
             let (a, b) = parts(place, sizes, 0);
             View::Pair(a, b)
@@ -62,23 +64,15 @@ fn read_mapped(func: Func, part: Place<'_>) -> View<'_>
     ensures lower { IsLower result part.entry.levels }
 {
     let whole = read_view(part);
-    match func {
-        Func::First => match whole {
-            View::Pair(a, _) => read_view(a),
-            View::Number(_) | View::Left(_) | View::Right(_) => whole,
-        },
-        Func::Second => match whole {
-            View::Pair(_, b) => read_view(b),
-            View::Number(_) | View::Left(_) | View::Right(_) => whole,
-        },
-        Func::Merge => match whole {
-            View::Left(a) | View::Right(a) => read_view(a),
-            View::Number(_) | View::Pair(_, _) => whole,
-        },
-        Func::Size => View::Number(0),
-        Func::Const(n) => View::Number(n),
-        Func::Add(n) => View::Number(number_in(whole).saturating_add(n)),
-        Func::Mul(n) => View::Number(number_in(whole).saturating_mul(n)),
+    match (func, whole) {
+        (Func::First, View::Pair(a, _)) => read_view(a),
+        (Func::Second, View::Pair(_, b)) => read_view(b),
+        (Func::Merge, View::Left(a) | View::Right(a)) => read_view(a),
+        (Func::First | Func::Second | Func::Merge, _) => whole,
+        (Func::Size, _) => View::Number(size_in(whole)),
+        (Func::Const(n), _) => View::Number(n),
+        (Func::Add(n), _) => View::Number(number_in(whole).saturating_add(n)),
+        (Func::Mul(n), _) => View::Number(number_in(whole).saturating_mul(n)),
     }
 }
 
@@ -128,25 +122,33 @@ fn number_in(view: View<'_>) -> u64
 {
     match view {
         View::Number(n) => n,
-        View::Pair(_, _) | View::Left(_) | View::Right(_) => 0,
+        View::Pair(_, _) | View::Left(_) | View::Right(_) | View::Size(_) => 0,
     }
 }
 
-// Returns the number that a test reads.
-pub(crate) fn read_number(pick: Pick, place: Place<'_>) -> u64
-    ensures value { (o : Output) → PlaceTells place.entry o → result ≡ picked pick o }
+// Returns the size of a list, or 0 if the output is no list.
+fn size_in(view: View<'_>) -> u64
+    ensures value { (o : Output) → Shows view.entry o → result ≡ size_in o }
 {
-    let whole = read_view(place);
-    match pick {
-        Pick::Whole => number_in(whole),
-        Pick::First => match whole {
-            View::Pair(a, _) => number_in(read_view(a)),
-            other => number_in(other),
-        },
-        Pick::Second => match whole {
-            View::Pair(_, b) => number_in(read_view(b)),
-            other => number_in(other),
-        },
-        Pick::Size => 0,
+    match view {
+        View::Size(n) => n,
+        View::Number(_) | View::Pair(_, _) | View::Left(_) | View::Right(_) => 0,
+    }
+}
+
+// Returns the number that a test reads of the output of a node's last step.
+pub(crate) fn read_number(pick: Pick, code: &[u64], words: &[u64], levels: u64) -> u64
+    ensures value { (o : Output) → Tells code.now words.now levels o → result ≡ picked pick o }
+{
+    let whole = read_view(Place {
+        code,
+        words,
+        levels,
+    });
+    match (pick, whole) {
+        (Pick::First, View::Pair(a, _)) => number_in(read_view(a)),
+        (Pick::Second, View::Pair(_, b)) => number_in(read_view(b)),
+        (Pick::Whole | Pick::First | Pick::Second, _) => number_in(whole),
+        (Pick::Size, _) => size_in(whole),
     }
 }

@@ -1,16 +1,16 @@
 //! One step of a code, in the words of its state.
 
 ghost use Rattle.std.specs.Prelude.{◌≡◌, ℕ, ◌+◌};
-ghost use Rattle.zs_term.specs.Output.{Output, passes, picked};
-ghost use Rattle.zs_c.specs.Steps.{StepsWords, StepsParts, StepsInTurn};
-ghost use Rattle.zs_c.specs.View.{Tells};
+ghost use Rattle.zs_c.specs.Steps.{StepsWords, StepsParts, StepsInTurn, size_after};
 
 use crate::program::clearing::clear;
 use crate::program::leaf::{Step, step_leaf};
-use crate::program::node::{Form, HEAD, LONG_HEAD, Sizes, read_node, split, words_after};
-use crate::program::outputs::{Place, read_number};
+use crate::program::node::{
+    Form, HEAD, LONG_HEAD, SHORT_HEAD, Sizes, read_node, split, words_after,
+};
+use crate::program::outputs::read_number;
 use zs_step::Decision;
-use zs_term::{MAX_WEIGHT, Pick, Test};
+use zs_term::MAX_WEIGHT;
 
 // Steps a node once, in the words of its state. A step visits at most the greatest weight of nodes,
 // whatever the words are.
@@ -47,32 +47,29 @@ pub(crate) fn step_code(
         Form::WhileOutput(pick, test) => {
             let part = words_after(code, LONG_HEAD);
             let decision = step_code(part, words, levels - 1, step, visits);
-            decision.only_if(has_passed(part, words, levels - 1, pick, test))
+            decision.only_if(test.passes(read_number(pick, part, words, levels - 1)))
         }
         Form::Map(_) => step_code(words_after(code, HEAD), words, levels - 1, step, visits),
         Form::ResetWhen(pick, test) => {
             let part = words_after(code, LONG_HEAD);
             let decision = step_code(part, words, levels - 1, step, visits);
-            if !has_passed(part, words, levels - 1, pick, test) {
+            if !test.passes(read_number(pick, part, words, levels - 1)) {
                 return decision;
             }
             clear(part, words, levels - 1);
             step_code(part, words, levels - 1, step, visits)
         }
+        Form::CollectAll => {
+            if words.len() < 2 {
+                return Decision::Stop;
+            }
+            let part = words_after(code, SHORT_HEAD);
+            let decision = step_code(part, &mut words[2..], levels - 1, step, visits);
+            words[0] = words[1];
+            words[1] = size_after(words[1], decision);
+            decision
+        }
     }
-}
-
-// Whether the output of a part's last step passes a test.
-fn has_passed(code: &[u64], words: &[u64], levels: u64, pick: Pick, test: Test) -> bool
-    ensures value { (o : Output) → Tells code.now words.now levels o
-        → result ≡ passes test (picked pick o) }
-{
-    let place = Place {
-        code,
-        words,
-        levels,
-    };
-    test.passes(read_number(pick, place))
 }
 
 // Steps both parts once.
@@ -128,4 +125,14 @@ fn step_and_then(
         clear(first, &mut words[1..begin], levels);
     }
     step_code(second, &mut words[begin..], levels, step, visits)
+}
+
+// Returns the size of a list after a step with this decision.
+fn size_after(size: u64, decision: Decision) -> u64
+    ensures value { result ≡ size_after size decision }
+{
+    match decision {
+        Decision::Next(_) => size.saturating_add(1),
+        Decision::Stop => size,
+    }
 }

@@ -12,7 +12,7 @@ returns-clause-ok c =
       term = t;
       spelled = record {
         spelled = c.in_ok-checked.ensures.ok;
-        flat = c.in_ok-program.ensures.flat;
+        flat = c.in_ok-program.ensures.shown;
       };
       sized = c.len.ensures ∙ c.in_ok-program.program.ok.0 ∙ ap length
           c.in_ok-program.ensures.program;

@@ -1,13 +1,7 @@
-use Rattle.std.proofs.Common.{inl, inr, sym, ap, ◌∙◌, subst}
-use Rattle.zs_term.specs.Output.{number, applied}
+use Rattle.std.proofs.Common.{inl, inr, sym, ◌∙◌, subst}
 use Rattle.zs_c.specs.View.{Shows}
-use Rattle.zs_c.proofs.Views.{no-levels, leaf-shows, pair-shows, left-shows, right-shows, while_input-part, while_output-part, reset_when-part, mapped-part, told-size}
+use Rattle.zs_c.proofs.Views.{no-levels, leaf-shows, pair-shows, left-shows, right-shows, while_input-part, while_output-part, reset_when-part, mapped-part, list-shows}
 use Rattle.zs_c.proofs.program.outputs.+viewing.Goals as goal
-
-pub read_mapped-returns-in-Size-clause-shows : goal.read_mapped-returns-in-Size-clause-shows
-read_mapped-returns-in-Size-clause-shows t c o tells =
-    let p = c.args.part in
-    ap (λ f. applied f o) c.in-Size.is ∙ ap number (told-size p.code.now p.words.now p.levels o tells)
 
 pub read_view-returns-then-place-eq0-clause-shows : goal.read_view-returns-then-place-eq0-clause-shows
 read_view-returns-then-place-eq0-clause-shows t c o tells =
@@ -82,3 +76,8 @@ read_view-returns-in-Both-clause-shows t c o tells =
       first_levels = e.first_levels;
       second_levels = e.second_levels;
     }) tells
+
+pub read_view-returns-in-CollectAll-clause-shows : goal.read_view-returns-in-CollectAll-clause-shows
+read_view-returns-in-CollectAll-clause-shows t c o tells =
+    let p = c.args.place in
+    list-shows p.code.now p.words.now p.levels c.word-in-CollectAll.result o c.read_node.result c.read_node.ensures.value c.in-CollectAll.is c.word-in-CollectAll.ensures.value tells
