@@ -69,7 +69,7 @@ enum zs_status {
     ZS_FALLS = 3,       /* zs_program_step, zs_plan: the moment is below that of the last step */
     ZS_NOT_UTF8 = 4,    /* the text isn't UTF-8 from the byte *at on */
     ZS_NO_MEMORY = 5,   /* an allocation failed; nothing is leaked, and the call may be repeated */
-    ZS_KEEPS_LIST = 6,  /* zs_program_size, zs_compile: the schedule has collectAll, so its state would grow with the steps */
+    ZS_KEEPS_LIST = 6,  /* zs_program_size, zs_compile: the output has a list, by collectAll, so the state would grow */
     ZS_NO_ROOM = 7,     /* calls over a program: a length is below the size from zs_program_size */
     ZS_NO_PROGRAM = 8,  /* calls over a program: no program of this version, or one that was changed */
     ZS_OTHER_STATE = 9, /* the words are the state of another program, or of none */

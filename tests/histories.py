@@ -9,7 +9,7 @@ from generator import seldom
 SCHEDULES = 2000
 NODES = [1, 1, 2, 2, 3, 3, 4, 5, 6, 7, 8, 10, 12, 16, 20, 30, 60]
 NUMBERS = {"no term": 11, "too big": 12, "number too large": 13, "factor is 0": 14, "no kind": 15, "window is 0": 16}
-KEEPS_LIST = "6,0,a schedule with collectAll has no state of fixed size"
+KEEPS_LIST = "6,0,an output with a list has no state of fixed size"
 FALLS = "3,0,the moment is below that of the step before it"
 
 
@@ -46,22 +46,32 @@ class History:
             self.steps.append(f"{int(following is None)},{following or 0},{reference.out_text(out)}")
 
     @property
+    def has_list(self):
+        """Whether it is a schedule whose output has a list, so that its state has no fixed size."""
+        return bool(self.weight) and has_list(reference.kind_of(reference.read_schedule(self.text)))
+
+    @property
     def is_flat(self):
         """Whether it is a schedule with a state of fixed size, and with steps."""
-        return bool(self.steps) and b"collectAll" not in self.text
+        return bool(self.steps) and not self.has_list
 
     def request(self, command):
         return " ".join([command, f".{self.text.hex()}", *[str(number) for pair in self.pairs for number in pair]])
 
     def differs(self, line, command):
         """What is wrong with a client's line for the request, or None."""
-        steps, fault = ([], KEEPS_LIST) if self.weight and b"collectAll" in self.text else (self.steps, self.fault)
+        steps, fault = ([], KEEPS_LIST) if self.has_list else (self.steps, self.fault)
         words = line.split(" ", len(steps))
         if command == "visits":
             words = [step for it, step in zip(words, steps) if 0 < int(it) <= self.weight] + words[len(steps):]
         if [it for it in words if it] == [*steps, *[fault] * bool(fault)]:
             return None
         return f"{self.request(command)}: {line}"
+
+
+def has_list(kind):
+    """Whether outputs of a kind have a list in them."""
+    return kind[0] == "Items" or any(map(has_list, kind[1:]))
 
 
 def made_text(chance):

@@ -26,7 +26,7 @@ import (
 const (
 	NoStep     = 2  // there is no output before the first step
 	Falls      = 3  // the moment is below that of the last step
-	KeepsList  = 6  // the schedule has collectAll, so its state would grow with the steps
+	KeepsList  = 6  // the output has a list, by collectAll, so the state would grow with the steps
 	NoProgram  = 8  // the Schedule is a zero value
 	OtherState = 9  // the words are the state of another schedule
 	NoDriver   = 10 // no driver does what the Driver says
@@ -118,8 +118,8 @@ type Schedule struct {
 	next, visits C.uint64_t
 }
 
-// Compile returns the schedule of a text, before its first step, or a *Fault. A schedule with
-// collectAll is one with the number KeepsList.
+// Compile returns the schedule of a text, before its first step, or a *Fault. For a schedule whose
+// output has a list that is one with the number KeepsList.
 func Compile(text string) (*Schedule, error) {
 	data, size, stateSize, at := []byte(text), C.size_t(0), C.size_t(0), C.uint64_t(0)
 	number := C.zs_program_size(bytesOf(data), C.size_t(len(data)), &size, &stateSize, &at)

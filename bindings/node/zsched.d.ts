@@ -28,8 +28,8 @@ export interface Turn {
 export class Schedule {
   /**
    * Makes the schedule of a text, before its first step, or with a state that `state` returned; of a
-   * Schedule a copy, which shares its program. Throws a Fault if the text is no schedule or has
-   * collectAll, and for the words of another schedule's state. Words that were changed after the
+   * Schedule a copy, which shares its program. Throws a Fault if the text is no schedule or its
+   * output has a list, and for the words of another schedule's state. Words that were changed after the
    * first aren't detected.
    */
   constructor(text: string | Uint8Array | Schedule, state?: ArrayLike<bigint> | null);

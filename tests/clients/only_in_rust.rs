@@ -36,7 +36,7 @@ fn faults_have_the_texts_of_the_library() {
     let texts = [
         (Schedule::new("recurs(1) && recurs(2)").map(drop), "no term at byte 10"),
         (Schedule::new("exponential(1, 0)").map(drop), "factor is 0"),
-        (Schedule::new("forever.collectAll").map(drop), "a schedule with collectAll has no state of fixed size"),
+        (Schedule::new("forever.collectAll").map(drop), "an output with a list has no state of fixed size"),
         (state_of("recurs(1)", &[1]), "the state of another program"),
         (state_of("recurs(1)", recurring.state()), "the state of another program"),
         (Err(Fault::NoProgram), "no program of this version, or one that was changed"),

@@ -112,7 +112,7 @@ public final class Schedule {
     private final long[] program;
     private final long[] state;
 
-    /** Makes the schedule of a text, before its first step. Throws {@link Fault}: number 6 if it has collectAll. */
+    /** Makes the schedule of a text, before its first step. Throws {@link Fault}: number 6 for a list in its output. */
     public Schedule(String text) {
         byte[] bytes = text.getBytes(StandardCharsets.UTF_8);
         long[] size = new long[1];

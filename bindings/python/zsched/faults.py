@@ -24,7 +24,7 @@ class Fault(ValueError):
 
 
 class ScheduleFault(Fault):
-    """The text `text` is no schedule, or has collectAll. `number` and `at` are those of zsched.h."""
+    """The text `text` is no schedule, or has a list in its output. `number` and `at` are those of zsched.h."""
 
     text: str
 

@@ -273,7 +273,7 @@ class Retrying:
     with the longest least wait as `asked`. If the input or the least wait is no number, no token of
     the budget is taken, and if the budget has too few, the schedule isn't stepped. Time and memory
     don't grow with the number of attempts. Raises ScheduleFault if the text is no schedule, or has
-    collectAll.
+    a list in its output.
 
     Many calls may use one at the same time."""
 

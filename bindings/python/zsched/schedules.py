@@ -52,7 +52,7 @@ class Schedule:
 
     def __init__(self, text: str) -> None:
         """Compiles a text, and begins before its first step. Raises ScheduleFault if the text is no schedule, or has
-        collectAll (number 6)."""
+        a list in its output (number 6)."""
         data, size, state_size, at = text.encode(), ctypes.c_size_t(), ctypes.c_size_t(), ctypes.c_uint64()
         refuse(text, library().zs_program_size(data, len(data), size, state_size, at), at.value)
         program, state = array.array("Q", bytes(8 * size.value)), array.array("Q", bytes(8 * state_size.value))

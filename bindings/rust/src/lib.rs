@@ -72,7 +72,7 @@ pub enum Fault {
     Falls,
     /// An allocation failed.
     Memory,
-    /// The schedule has `collectAll`, so its state would grow with the steps.
+    /// The output has a list, by `collectAll`, so the state would grow with the steps.
     KeepsList,
     /// The words are no program of this version of the library.
     NoProgram,
@@ -302,6 +302,7 @@ fn saturate(number: u128) -> u64 {
 /// assert_eq!(again.fresh().after(7, 503)?, Some(107));
 /// assert_eq!(Schedule::resume("(spaced(100) && recurs(5))", again.state()), Err(Fault::OtherState));
 /// assert_eq!(Schedule::new("forever.collectAll"), Err(Fault::KeepsList));
+/// assert!(Schedule::new("forever.collectAll.map(size)").is_ok());
 /// # Ok::<(), Fault>(())
 /// ```
 #[derive(Clone, Debug, PartialEq, Eq)]

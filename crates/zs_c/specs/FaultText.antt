@@ -11,7 +11,7 @@ fault_words n =
     else if nat_eq n 4 then codes "not UTF-8"
     else if nat_eq n 5 then codes "out of memory"
     else if nat_eq n 6 then codes "an output with a list has no state of fixed size"
-    else if nat_eq n 7 then codes "the words are fewer than the state has"
+    else if nat_eq n 7 then codes "fewer words than zs_program_size returns"
     else if nat_eq n 8 then codes "no program of this version, or one that was changed"
     else if nat_eq n 9 then codes "the state of another program"
     else if nat_eq n 10 then codes "no driver does this"

@@ -13,7 +13,7 @@ pub(crate) fn fault_words(number: u32) -> &'static str
         4 => "not UTF-8",
         5 => "out of memory",
         6 => "an output with a list has no state of fixed size",
-        7 => "the words are fewer than the state has",
+        7 => "fewer words than zs_program_size returns",
         8 => "no program of this version, or one that was changed",
         9 => "the state of another program",
         10 => "no driver does this",
