@@ -282,7 +282,8 @@ def test_the_readme_in_c_gives_up(library, tmp_path):
     code = re.search(r"```c\n(.*?)```", (BINDINGS / "c" / "README.md").read_text(), re.DOTALL)[1]
     (tmp_path / "readme.c").write_text(code)
     for compiler in [["cc", "-std=c99"], ["c++", "-x", "c++", "-std=c++17"]]:
-        ran([*compiler, *STRICT, "-I", TOP / "include", "-I", BINDINGS / "c", "-c", "-o", "readme.o", "readme.c"], tmp_path)
+        ran([*compiler, *STRICT, "-I", TOP / "include", "-I", BINDINGS / "c", "-c", "-o", "readme.o", "readme.c"],
+            tmp_path)
         ran(["cc", "-o", "readme", "readme.o", library / "libzsched.a"], tmp_path)
         assert ran(["./readme"], tmp_path) == "504 after 4 attempts\n"
 

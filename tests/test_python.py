@@ -393,7 +393,7 @@ def test_a_clock_that_falls_makes_no_attempt_more(zsched):
         raise OSError
     with pytest.raises(OSError):
         zsched.retrying("(spaced(30) && recurs(3))", clock=clock, sleep=clock.sleep)(effect)()
-    # The clock stands at 5 ms for the second attempt, which counts from its planned begin at 35 ms: the next is at 66 ms.
+    # The second attempt begins at 5 ms and counts from its planned begin, 35 ms, for 1 ms: the next begins at 66 ms.
     assert [round(it, 6) for it in clock.slept] == [0.03, 0.056, 0.03] and moments == [0, -59.965, -59.904, -59.869]
 
 

@@ -1,5 +1,5 @@
--- The sizes of lists after a history: no more than its steps. So 64 bits hold them, if they hold the
--- number of steps.
+-- The sizes of lists after a history: no more than its steps. So 64 bits hold them, if they hold
+-- the number of steps.
 use Rattle.std.proofs.Common.{◌≡◌, ℕ, suc, ◌<◌, ◌≤◌, Bool, true, false, ◌&&◌, Option, Some, None, [], ◌∷◌, length, refl, ap, ◌∙◌, subst, arith}
 use Rattle.zs_term.specs.Output.{Output, Outputs, none, more, with_last, count, passes, picked}
 use Rattle.zs_term.specs.Schedule.{Schedule, Pairing, Modifier, two, over, while_input, while_output, collect_all, mapped, reset_when}

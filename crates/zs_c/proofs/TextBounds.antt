@@ -41,7 +41,7 @@ digits-few n small = length-decimal-le 20 n (omega arith) (omega arith) small
 pub pair-length : (a b : Output) → length (output_text (pair a b)) ≡ 3 + length (output_text a) + length (output_text b)
 pair-length a b = simp length-append (omega arith)
 
--- the length of an output's text, where a list has the digits of its size
+-- the length of an output's text; that of a list is the length of the digits of its size
 abbrev pub text_size : Output → ℕ
 text_size (number n) = length (decimal n)
 text_size (pair a b) = 3 + text_size a + text_size b

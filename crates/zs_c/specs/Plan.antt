@@ -112,6 +112,13 @@ pub record BeginsFairly (t : Schedule) (h : History) (planned : ℕ) (turn : Tur
   pub decides : (answer_of t (step_of planned turn ∷ h)).decision ≡ Next next
   pub fair : IsFair turn (moment_of planned turn) next begin
 
+-- The plan of a turn is fair for each history and planned begin whose state the words were, if 64
+-- bits hold the sizes of lists.
+abbrev pub PlansFairly : Schedule → Turn → List ℕ → ℕ → Type 0
+PlansFairly t turn state begin =
+    (h : History) (planned : ℕ) → KeepsProgramState t h planned state → IsCountable t h
+    → BeginsFairly t h planned turn begin
+
 -- The plan of a turn is returned, and words begin with the state after its step, with the new
 -- planned begin.
 pub record TellsPlan (t : Schedule) (h : History) (planned : ℕ) (turn : Turn) (new : List ℕ)

@@ -3,12 +3,12 @@
 ghost use Rattle.std.specs.Prelude.{◌≡◌, ◌<◌, ◌≤◌, ℕ, true, length, slice_index_or};
 ghost use Rattle.zs_term.specs.Schedule.{Schedule};
 ghost use Rattle.zs_step.specs.History.{History};
-ghost use Rattle.zs_c.specs.Plan.{BeginsFairly, IsPlannable, IsTurnDenied, IsTurnPlanned, moment_of};
+ghost use Rattle.zs_c.specs.Plan.{PlansFairly, IsPlannable, IsTurnDenied, IsTurnPlanned, moment_of};
 ghost use Rattle.zs_c.specs.Planned.{KeepsBounds};
 ghost use Rattle.zs_c.specs.Program.{IsChecked, IsProgram, KeepsProgramState};
 ghost use Rattle.zs_c.specs.Programs.{IsProgramSized, IsCompiled, IsCompileRefusal, IsUnfit, IsStepDenied, IsOutputDenied, IsDeniedFor, IsProgramBegun, IsProgramStepped, IsOutputTold, IsStepSafe};
 ghost use Rattle.zs_c.specs.Refusals.{IsSizeRefusal};
-ghost use Rattle.zs_c.specs.Shown.{IsCountable, shows_no_list};
+ghost use Rattle.zs_c.specs.Shown.{shows_no_list};
 ghost use Rattle.zs_c.specs.Told.{IsRefusedFor};
 
 use std::alloc::Global;
@@ -113,9 +113,8 @@ pub extern "C" fn zs_output(program: &[u64], state: &[u64], out: &mut [u8], size
 pub extern "C" fn zs_plan(program: &[u64], state: &mut [u64], turn: &Turn, begin: &mut u64) -> u32
     ensures planned { result ≤ 1 → (t : Schedule) → IsProgram program.now t
         → IsTurnPlanned t turn.now state.old state.new result begin.new }
-    ensures fair { result ≡ 0 → (t : Schedule) (h : History) (planned : ℕ) → IsProgram program.now t
-        → KeepsProgramState t h planned state.old → IsCountable t h
-        → BeginsFairly t h planned turn.now begin.new }
+    ensures fair { result ≡ 0 → (t : Schedule) → IsProgram program.now t
+        → PlansFairly t turn.now state.old begin.new }
     ensures bounded { result ≤ 1 → KeepsBounds program.now state.old turn.now result begin.new }
     ensures succeeds { (t : Schedule) (h : History) (planned : ℕ) → IsProgram program.now t
         → KeepsProgramState t h planned state.old → IsPlannable h planned turn.now → result ≤ 1 }

@@ -44,7 +44,7 @@ pub(crate) const RESET_WHEN: u64 = 17;
 
 pub(crate) const COLLECT_ALL: u64 = 18;
 
-/// The words of an operator before its parts: its tag, and two words of its own.
+/// The words of an operator before its parts: its tag, and two more words.
 pub(crate) const HEAD: usize = 3;
 
 /// The same for `whileOutput` and `resetWhen`, which have three.

@@ -1,6 +1,7 @@
 //! One step of a code, in the words of its state.
 
 ghost use Rattle.std.specs.Prelude.{◌≡◌, ℕ, ◌+◌};
+ghost use Rattle.zs_step.specs.Answer.{later_of, earlier_of};
 ghost use Rattle.zs_c.specs.Steps.{StepsWords, StepsParts, StepsInTurn, size_after};
 
 use crate::program::clearing::clear;
@@ -31,14 +32,8 @@ pub(crate) fn step_code(
     *visits += 1;
     match read_node(code) {
         Form::Leaf(leaf) => step_leaf(leaf, words, step),
-        Form::Both(sizes) => {
-            let (x, y) = step_parts(code, words, sizes, levels - 1, step, visits);
-            x.later(y)
-        }
-        Form::Either(sizes) => {
-            let (x, y) = step_parts(code, words, sizes, levels - 1, step, visits);
-            x.earlier(y)
-        }
+        Form::Both(sizes) => later(step_parts(code, words, sizes, levels - 1, step, visits)),
+        Form::Either(sizes) => earlier(step_parts(code, words, sizes, levels - 1, step, visits)),
         Form::AndThen(sizes) => step_and_then(code, words, sizes, levels - 1, step, visits),
         Form::WhileInput(test) => {
             let decision = step_code(words_after(code, HEAD), words, levels - 1, step, visits);
@@ -70,6 +65,20 @@ pub(crate) fn step_code(
             decision
         }
     }
+}
+
+// Returns the later one of the decisions of two parts.
+fn later(parts: (Decision, Decision)) -> Decision
+    ensures value { result ≡ later_of parts.0 parts.1 }
+{
+    parts.0.later(parts.1)
+}
+
+// Returns the earlier one.
+fn earlier(parts: (Decision, Decision)) -> Decision
+    ensures value { result ≡ earlier_of parts.0 parts.1 }
+{
+    parts.0.earlier(parts.1)
 }
 
 // Steps both parts once.

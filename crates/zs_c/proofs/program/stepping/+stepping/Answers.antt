@@ -72,7 +72,7 @@ step_code-returns-in-Leaf t c = record {
 
 pub step_code-returns-in-Both : goal.step_code-returns-in-Both
 step_code-returns-in-Both t c = record {
-  steps = λ u h coded room countable held. let s = c.step_parts-x in
+  steps = λ u h coded room countable held. let s = c.step_parts in
       both-node u h c.args.code.now c.args.words.now s.new.words c.args.levels c.args.step.now.moment c.args.step.now.input s.result.0 s.result.1 c.later.result
       c.args.visits.now s.new.visits max_weight c.read_node.result c.in-Both.sizes coded c.read_node.ensures.value c.in-Both.is room countable held s.ensures.steps
       c.later.ensures.value;
@@ -80,7 +80,7 @@ step_code-returns-in-Both t c = record {
 
 pub step_code-returns-in-Either : goal.step_code-returns-in-Either
 step_code-returns-in-Either t c = record {
-  steps = λ u h coded room countable held. let s = c.step_parts-x-in-Either in
+  steps = λ u h coded room countable held. let s = c.step_parts-in-Either in
       either-node u h c.args.code.now c.args.words.now s.new.words c.args.levels c.args.step.now.moment c.args.step.now.input s.result.0 s.result.1 c.earlier.result
       c.args.visits.now s.new.visits max_weight c.read_node.result c.in-Either.sizes coded c.read_node.ensures.value c.in-Either.is room countable held s.ensures.steps
       c.earlier.ensures.value;
