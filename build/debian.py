@@ -1,30 +1,17 @@
-"""The common parts of the Debian packages of this tree: version, dates, changelog, copyright, sums, and the build."""
+"""The common parts of the Debian packages of this tree, whose fields are in build/control: dates, changelog, the build."""
 import datetime
 import gzip
-import hashlib
 import os
 import pathlib
 import re
-import shutil
+import tempfile
 import textwrap
 
-from library_files import put, ran
+from library_files import TOP, put, ran
 from zsched_tools.command import Refused, version
 
-TOP = pathlib.Path(__file__).resolve().parent.parent
 LIBC = {"libc.so.6", "libm.so.6", "libpthread.so.0", "libdl.so.2", "ld-linux-x86-64.so.2", "ld-linux-aarch64.so.1"}
-COPYRIGHT = """\
-Format: https://www.debian.org/doc/packaging-manuals/copyright-format/1.0/
-Upstream-Name: zsched
-
-Files: *
-Copyright: 2026 the authors of zsched
-License: Apache-2.0
-
-License: Apache-2.0
- On Debian systems the text of this licence is in
- /usr/share/common-licenses/Apache-2.0.
-"""
+MAINTAINER = f"{os.environ.get('DEBFULLNAME', 'zsched')} <{os.environ.get('DEBEMAIL', 'zsched@localhost')}>"
 
 
 def newest():
@@ -40,25 +27,18 @@ def newest():
 
 def moment():
     """The date of all files, in seconds: SOURCE_DATE_EPOCH, or that of the newest release."""
-    return int(os.environ.get("SOURCE_DATE_EPOCH", newest()[0].timestamp()))
+    try:
+        return int(os.environ.get("SOURCE_DATE_EPOCH", newest()[0].timestamp()))
+    except ValueError as fault:
+        raise Refused(fault) from fault
 
 
-def maintainer():
-    """The maintainer by DEBFULLNAME and DEBEMAIL."""
-    return f"{os.environ.get('DEBFULLNAME', 'zsched')} <{os.environ.get('DEBEMAIL', 'zsched@localhost')}>"
-
-
-def machine():
-    """Debian's word for this kind of machine."""
-    return ran(["dpkg", "--print-architecture"]).strip()
-
-
-def changelog(source):
-    """Debian's changelog of a package: the newest release of CHANGELOG.md."""
+def changelog():
+    """Debian's changelog: the newest release of CHANGELOG.md."""
     day, lines = newest()
     items = "\n".join(textwrap.fill(line, 78, initial_indent="  * ", subsequent_indent="    ") for line in lines)
-    return (f"{source} ({version()}) unstable; urgency=medium\n\n{items}\n\n"
-            f" -- {maintainer()}  {day.strftime('%a, %d %b %Y %H:%M:%S +0000')}\n")
+    return (f"zsched ({version()}) unstable; urgency=medium\n\n{items}\n\n"
+            f" -- {MAINTAINER}  {day.strftime('%a, %d %b %Y %H:%M:%S +0000')}\n")
 
 
 def libc_of(path):
@@ -78,39 +58,21 @@ def zipped(data):
     return gzip.compress(data.encode() if isinstance(data, str) else data, 9, mtime=0)
 
 
-def put_papers(root, name):
-    """Copyright and changelog of a package."""
-    put(root / "usr/share/doc" / name / "copyright", COPYRIGHT)
-    put(root / "usr/share/doc" / name / "changelog.gz", zipped(changelog(name)))
-
-
-def put_control(root, fields, description):
-    """Writes the files for dpkg: the package's fields, its size, and the sum of each file."""
-    files = sorted(file for file in root.rglob("*") if file.is_file() and not file.is_symlink())
-    files = [file for file in files if "DEBIAN" not in file.relative_to(root).parts]
-    folders = sum(1 for file in root.rglob("*") if file.is_dir() or file.is_symlink())
-    size = folders + sum(-(-file.stat().st_size // 1024) for file in files)
-    sums = "".join(f"{hashlib.md5(file.read_bytes()).hexdigest()}  {file.relative_to(root)}\n" for file in files)
-    put(root / "DEBIAN/md5sums", sums)
-    fields = {**fields, "Maintainer": maintainer(), "Installed-Size": size, "Priority": "optional"}
-    put(root / "DEBIAN/control",
-        "".join(f"{name}: {value}\n" for name, value in fields.items()) + f"Description: {description}")
-
-
-def built(root, name, out):
-    """Builds a package of the files below a root, and returns its path."""
+def built(root, name, out, libc=""):
+    """Builds a package of the files below a root that need this version of the C library, and returns its path."""
+    put(root / "usr/share/doc" / name / "copyright", (TOP / "build/copyright").read_bytes())
+    put(root / "usr/share/doc" / name / "changelog.gz", zipped(changelog()))
+    files = sorted(it.relative_to(root) for it in (root / "usr").rglob("*") if it.is_file() and not it.is_symlink())
+    put(root / "DEBIAN/md5sums", ran(["md5sum", *files], cwd=root))
+    with tempfile.TemporaryDirectory() as room:
+        put(pathlib.Path(room, "debian/control"), (TOP / "build/control").read_bytes())
+        put(pathlib.Path(room, "debian/changelog"), changelog())
+        put(root / "DEBIAN/control", ran(["dpkg-gencontrol", f"-p{name}", f"-P{root}", f"-DMaintainer={MAINTAINER}",
+                                          f"-Vlibc={libc}", "-O"], cwd=room))
     for file in [root, *root.rglob("*")]:
         if file.is_dir():
             file.chmod(0o755)
         os.utime(file, (moment(), moment()), follow_symlinks=False)
-    made = pathlib.Path(out) / name
-    ran(["dpkg-deb", "-Zxz", "--root-owner-group", "--build", str(root), str(made)],
-        env={**os.environ, "SOURCE_DATE_EPOCH": str(moment())})
-    return made
-
-
-def need_tools():
-    """Raises Refused if a necessary program isn't installed."""
-    for tool in ["dpkg", "dpkg-deb", "objdump", "strip"]:
-        if shutil.which(tool) is None:
-            raise Refused(f"{tool} isn't installed (Debian: {'dpkg' if 'dpkg' in tool else 'binutils'})")
+    said = ran(["dpkg-deb", "-Zxz", "--root-owner-group", "--build", root, f"{out}/"],
+               env={**os.environ, "LC_ALL": "C", "SOURCE_DATE_EPOCH": str(moment())})
+    return pathlib.Path(re.search("in '(.*)'", said)[1])

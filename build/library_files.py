@@ -2,10 +2,13 @@
 import pathlib
 import re
 import subprocess
+import sys
+
+TOP = pathlib.Path(__file__).resolve().parent.parent
+sys.path.insert(0, str(TOP / "tools"))
 
 from zsched_tools.command import Refused, version
 
-TOP = pathlib.Path(__file__).resolve().parent.parent
 MADE = TOP / "crates" / "zsched_c" / "out"
 ABI = (TOP / "include" / "zsched.abi").read_text(encoding="utf-8")
 SONAME = re.search(r"^soname (\S+)$", ABI, re.M)[1]
