@@ -1,4 +1,4 @@
-"""The common parts of the Debian packages of this tree, whose fields are in build/control: dates, changelog, the build."""
+"""The common parts of the Debian packages, whose fields are in build/control: dates, changelog, and the build."""
 import datetime
 import gzip
 import os

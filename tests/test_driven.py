@@ -10,6 +10,7 @@ import re
 import generator
 import pytest
 import reference
+import zio_model as zio
 from support import run
 
 POLICIES = 400      # of each kind
@@ -22,67 +23,33 @@ SPREAD = [(0, 100, 0, 0), (50, 100, 0, 0), (80, 120, 0, 0), (50, 150, 1, 0), (10
 ATTEMPTS = [(1, 1), (1, 3), (2, 6), (1, 8), (3, 12)]
 
 
-def leaf(s, state, m, i):
-    """The result of a leaf at its next step, at moment m with input i. A state has the number of steps, the moment of
-    the first, and the next moment. None is that before the first step."""
-    n, first, before = state or (0, m, None)
-    n += 1
-    match s:
-        case "recurs", k:
-            out, then = n - 1, m if n - 1 < k else None
-        case "spaced", d:
-            out, then = n - 1, m + d
-        case "fixed", p:
-            is_behind = before is not None and (m > before + p or p == 0)
-            out, then = n - 1, m if is_behind else m + p - (m - first) % (p or 1)
-        case "windowed", p:
-            out, then = n - 1, m + p - (m - first) % p
-        case "exponential", b, f:
-            out = b * f ** (n - 1)
-            then = m + out
-        case "fibonacci", o:
-            out = o * reference.fibonacci(n)
-            then = m + out
-        case "linear", b:
-            out, then = b * n, m + b * n
-        case _:
-            out, then = {"forever": n - 1, "identity": i, "elapsed": m - first}[s[0]], m
-    then = then if then is None else reference.sat(then)
-    return reference.sat(out), then, (n, first, then if s[0] == "fixed" else None)
+def fixed(period):
+    def step(now, given, state):
+        number, first, before = state or (0, now, None)
+        is_behind = before is not None and (now > before + period or period == 0)
+        after = now if is_behind else now + period - (now - first) % (period or 1)
+        return (number + 1, first, after), number, after
+    return zio.Schedule(None, step)
 
 
-def step(s, state, m, i):
-    """The output and the next moment of a schedule at its next step, or None if it is done, and the next state. Of a
-    list only the length can be read."""
+def schedule_of(s):
+    """A term as a schedule of ZIO, without a limit of 64 bits. Of a list only the length can be read."""
+    parts = [schedule_of(part) for part in reference.parts_of(s)]
     match s:
-        case ("&&" | "||") as operator, a, b:
-            (x, v, p), (y, w, q) = (step(part, before, m, i) for part, before in zip((a, b), state or (None, None)))
-            going = [it for it in (v, w) if it is not None]
-            is_done = len(going) < (2 if operator == "&&" else 1)
-            return ("Pair", x, y), None if is_done else (max if operator == "&&" else min)(going), (p, q)
-        case "andThenEither", a, b:
-            is_second, inner = state or (False, None)
-            if not is_second:
-                x, then, after = step(a, inner, m, i)
-                if then is not None:
-                    return ("Left", x), then, (False, after)
-            x, then, after = step(b, inner if is_second else None, m, i)
-            return ("Right", x), then, (True, after)
-        case "resetWhen", part, *test:
-            result = step(part, state, m, i)
-            return step(part, None, m, i) if reference.passes(result[0], *test) else result
-        case "collectAll", part:
-            inner, count = state or (None, 0)
-            _, then, after = step(part, inner, m, i)
-            return range(count), then, (after, count + (then is not None))
-        case "map", part, function, k:
-            x, then, after = step(part, state, m, i)
-            return reference.mapped(function, k, x), then, after
-        case ("whileInput" | "whileOutput") as form, part, pick, test, k:
-            x, then, after = step(part, state, m, i)
-            passes = reference.COMPARISONS[test](i, k) if form == "whileInput" else reference.passes(x, pick, test, k)
-            return x, then if passes else None, after
-    return leaf(s, state, m, i)
+        case ("&&" | "||") as operator, *_:
+            return {"&&": zio.both, "||": zio.either}[operator](*parts).map(lambda out: ("Pair", *out))
+        case "andThenEither", *_:
+            return zio.and_then_either(*parts)
+        case "collectAll", _:
+            return parts[0].repetitions().map(range)
+        case "map", _, function, k:
+            return parts[0].map(lambda out: reference.mapped(function, k, out))
+        case "whileInput", _, _, test, k:
+            return parts[0].while_input(lambda given: reference.COMPARISONS[test](given, k))
+        case ("whileOutput" | "resetWhen") as form, _, *test:
+            limited = parts[0].while_output if form == "whileOutput" else parts[0].reset_when
+            return limited(lambda out: reference.passes(out, *test))
+    return (fixed if s[0] == "fixed" else getattr(zio, s[0]))(*s[1:])
 
 
 class Reached:
@@ -92,19 +59,20 @@ class Reached:
     def __init__(self, s, inputs, driver):
         (self.shortest, self.longest), (self.low, self.high, self.late, self.asked) = driver
         self.least, self.most, self.wait, self.total, self.run = None, 0, 0, 0, self.longest
+        schedule = schedule_of(s)
         # Steps of one state at one moment: the longest waits before it, and the number of histories up to it.
-        self.histories, self.work, self.open = 0, 0, {(None, 0): (0, 1)}
+        self.histories, self.work, self.open = 0, 0, {(schedule.initial, 0): (0, 1)}
         while self.open and self.most < STEPS and self.work < WORK:
             before, self.open, self.most = self.open, {}, self.most + 1
             for (state, m), (waited, histories) in before.items():
                 for i in inputs:
-                    _, then, after = step(s, state, m, i)
+                    after, _, then = schedule.step(m, i, state)
                     self.work, self.histories = self.work + 10, self.histories + histories
                     if then is None:
                         self.least = self.least or self.most
                         self.see(m, waited, 0, 0)
                     else:
-                        self.go_on(after, m, then - m, waited, histories)
+                        self.go_on(after, m, reference.sat(then) - m, waited, histories)
 
     def see(self, m, waited, wait, attempt):
         self.wait, self.total = max(self.wait, wait), max(self.total, waited + wait)
