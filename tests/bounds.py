@@ -13,8 +13,7 @@ from reference import sat
 MOST, LAST = 2 ** 64 - 1, 999999999999999
 # The steps that are looked at by default, and of large schedules so many that the steps of all nodes are at most WORK.
 STEPS, WORK, ANY = 20000, 1200000, (1, None)
-# The waits of a driver: the least and the most percentage of the schedule's, how late an attempt may begin (MOST: by
-# any time), and the longest wait that is honoured on request.
+# A driver's waits: the least and the most percentage, how late an attempt may begin, and the longest wait on request.
 EXACT = (100, 100, 0, 0)
 WAITS = [EXACT, EXACT, (0, 100, 0, 0), (80, 120, 0, 0), (50, 150, 3, 0), (100, 100, 50, 900), (33, 67, 0, 5),
          (100, 100, MOST, 0), (0, 0, 0, 7)]
@@ -100,8 +99,7 @@ def merge(s, a, b):
 
 
 def step(s, state, d):
-    """The result of one more step, an interval d of time after the one before, and the next state; None is the
-    first."""
+    """The result of one more step, an interval d of time after the one before, and the next state (None: the first)."""
     match s:
         case ("&&" | "||") as operator, a, b:
             (x, v, stops_a), after_a = step(a, state and state[0], d)
@@ -235,8 +233,7 @@ def weight(s):
 
 
 def bounds(s, durations=ANY, most=None, waits=EXACT):
-    """The bounds of a schedule, durations of attempts and waits of a driver, by at most this number of steps, as
-    zsched-bounds prints them."""
+    """The bounds that zsched-bounds prints of a schedule, durations, waits of a driver and at most this many steps."""
     state, d, passed, least, longest, total, run = None, None, 0, 1, 0, 0, durations[1]
     limit, most = time_limit(s), most or max(1, min(STEPS, WORK // weight(s)))
     for n in range(1, most + 1):

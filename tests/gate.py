@@ -74,9 +74,8 @@ def interrupted(number, _):
 
 
 def judged(name, lines, status, is_late=False):
-    """How many cases of a part passed and failed, by its output and its status, and why else it failed. A part whose
-    last line doesn't count what passed has failed, and so has one that passed fewer cases than its floor, or whose
-    status differs from the one that its last line implies."""
+    """How many cases of a part passed and failed, and why else it failed: its last line doesn't count what passed or
+    implies another status, or fewer cases passed than its floor."""
     counts = {word.removesuffix("s"): int(number) for number, word in COUNT.findall(lines[-1] if lines else "")}
     passed, failed = counts.get("passed", 0), counts.get("failed", 0) + counts.get("error", 0)
     why, floor = [], floors().get(name, 1)

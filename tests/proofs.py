@@ -30,8 +30,7 @@ def edits():
 
 
 def judged(lines, status, wanted):
-    """How many proofs and edits passed and failed, by the output of `rt ci`, and why it failed beside what it counts
-    itself."""
+    """How many proofs and edits passed and failed, by the output of `rt ci`, and why else than by what it counts."""
     last = LAST.match(lines[-1]) if lines else None
     passed, failed = (int(last[1]), int(last[2])) if last else (0, 1)
     missing = wanted - {found[1] for found in map(REJECTED.match, lines) if found}
@@ -45,8 +44,7 @@ def judged(lines, status, wanted):
 
 
 def variables():
-    """The variables for `rt ci`. It delays proofs until more memory is free than they take, so it gets the number that
-    may run at once if there are four gigabytes for each."""
+    """The variables for `rt ci`, which waits for free memory: how many run at once, if each has four gigabytes."""
     processors, memory = len(os.sched_getaffinity(0)), os.sysconf("SC_PAGE_SIZE") * os.sysconf("SC_PHYS_PAGES")
     return ({"RT_JOBS": str(processors)} if memory >= 4_000_000_000 * processors else {}) | os.environ
 

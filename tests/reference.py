@@ -453,8 +453,7 @@ def read_plan(plan):
 
 
 def answer(plan, most=None):
-    """The status, standard output and standard error of zsched for a plan. Raises TooManyAttempts if a job has more
-    attempts than `most`."""
+    """The status, output and errors of zsched for a plan. Raises TooManyAttempts if a job has more than `most`."""
     try:
         jobs, ticks = read_plan(plan)
     except Fault as fault:

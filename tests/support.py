@@ -87,8 +87,7 @@ def heavy_jobs(workers, grain):
 
 
 def run(program, text, environment=None, seconds=60, **more):
-    """Runs a program, or a list of words, on the text: its status (less than 0 for a signal, None past the time),
-    output and errors."""
+    """Runs a program or words on the text: status (less than 0 for a signal, None past the time), output and errors."""
     words = program if isinstance(program, list) else [program]
     try:
         ended = subprocess.run(words, input=text, capture_output=True, timeout=seconds, env=environment, **more)
@@ -98,8 +97,7 @@ def run(program, text, environment=None, seconds=60, **more):
 
 
 def difference(found, wanted):
-    """Where two results of `run` differ, in a few words, or None. pytest itself would compare long reports for
-    hours."""
+    """Where two results of `run` differ, in a few words, or None. pytest would compare long reports for hours."""
     if found == wanted:
         return None
     streams = [f"status {found[0]} instead of {wanted[0]}"]

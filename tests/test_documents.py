@@ -131,8 +131,7 @@ CODE = tuple(sorted(it for end in ("rt", "antt") for it in TOP.glob(f"crates/*/[
 # How a line of prose begins in a file of each kind.
 BEGINS = {".md": "", ".rt": r"\s*//[/!]? ?", ".antt": r"\s*-- ?"}
 WIDTH, MOST_WORDS = 100, 28000
-# What has another meaning here than elsewhere or none, what to write instead, and how often the first is right in all
-# pages and in all comments.
+# What has another meaning here than elsewhere, what to write instead, and how often it is right in pages, comments.
 WORDS = [line.split("\t") for line in (TOP / "tests" / "words.tsv").read_text().splitlines()]
 
 

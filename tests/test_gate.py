@@ -89,8 +89,7 @@ def test_an_edit_that_the_toolchain_passes_over_fails_the_proofs(name, said, sta
 
 @pytest.mark.parametrize("part, word", [("proofs", "ci"), ("quick", "check")])
 def test_a_gate_that_is_ended_leaves_no_process(part, word, tree):
-    """The toolchain has started two processes, one in a session of its own. `nohup` ignores the end of a terminal,
-    and `timeout` sends two signals."""
+    """The toolchain began two processes, one in a session. `nohup` ignores SIGHUP, `timeout` sends two signals."""
     for name in ["gate.py", "quick.py"]:
         shutil.copy(TOP / "tests" / name, tree / "tests")
     for name in ["zsched", "zsched_bounds"]:

@@ -42,9 +42,8 @@ class Cost(NamedTuple):
 
 
 class Row(NamedTuple):
-    """A line of growth.tsv: the program as a fixture, the smaller n, the limit for each further thing, the input of n
-    things in Python by the names of this file, the status, and how often the larger run may cost what the smaller does.
-    If n is 0 nothing grows, and the limit is for the whole run."""
+    """A line of growth.tsv: the program's fixture, the smaller n (0: nothing grows), the limit for each further thing
+    or the run, the input of n things in Python, the status, and how often the larger run may cost the smaller."""
     runs: str
     size: int
     most: Cost

@@ -94,8 +94,7 @@ def long_report(items):
 
 
 def many_moments(count):
-    """`count` jobs that begin one after the other: the first half from its last job to its first, the others in
-    order."""
+    """`count` jobs that begin in turn: the first half from its last job to its first, the others in order."""
     starts = [*range(count, 0, -2), *range(count + 2, 2 * count + 1, 2)]
     lines = [line for number, start in enumerate(starts) for line in lines_of(f"j{number}", [0], start)]
     jobs = [job(number, "recurs(0)", start=start) for number, start in enumerate(starts)]

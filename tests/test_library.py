@@ -17,8 +17,7 @@ FORGED = 200
 VALGRIND = ["valgrind", "--quiet", "--error-exitcode=9", "--leak-check=full", "--show-leak-kinds=all"]
 # Schedules of the greatest depth.
 DEEPEST = rows("deepest.jsonl")
-# A schedule, the numbers of struct zs_run_bounds for at most 1000 steps, the same if attempts take at most 5 s, and how
-# they were worked out by hand.
+# A schedule, the numbers of struct zs_run_bounds for 1000 steps, the same for attempts of at most 5 s, and the reasons.
 BOUNDS = {it[0]: it[1:3]
           for it in (line.split("\t") for line in (TOP / "tests" / "bounds.tsv").read_text().splitlines())}
 # A policy's program, by crates/zs_c/specs/Program.antt and Code.antt.

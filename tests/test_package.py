@@ -211,8 +211,7 @@ def pip(root, package):
 
 
 def wheel(root):
-    """The wheel, which has to keep the rules of auditwheel for its tag: versions of the C library, and no other
-    library."""
+    """The wheel, which has to keep auditwheel's rules for its tag: versions of the C library, and no other library."""
     made, _ = packages(root, "python")
     client, tag = pip(root, made), re.fullmatch(rf"zsched-{VERSION}-(py3-none-manylinux_2_(\d+)_x86_64).whl", made.name)
     said = next(root.folder.glob("site/zsched-*/WHEEL")).read_text()
@@ -237,8 +236,7 @@ def crate(root):
 
 
 def npm(root):
-    """The client in JavaScript, over the package that npm installs. Elsewhere an error says for which machines it
-    is."""
+    """The client in JavaScript, over the package that npm installs. Elsewhere an error says for which machines."""
     need("npm")
     ran(["npm", "install", "--offline", "--no-audit", "--no-fund", *packages(root, "node")], root.folder,
         npm_config_cache="cache")

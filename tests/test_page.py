@@ -104,8 +104,7 @@ def test_bounds_are_those_of_the_interval_run(page, texts, least, steps=120):
 
 
 def wrong_schedules():
-    """Schedules with a mistake: those of mistakes.tsv, names and symbols of others, and a good one that is cut or
-    changed."""
+    """Schedules with a mistake: those of mistakes.tsv, names and symbols of others, and a good one that is changed."""
     good = "((exponential(100, 2) || spaced(2000)).map(_1) && identity.whileInput(>= 500)).resetWhen(_2 = 4).collectAll"
     yield from (json.loads(split(marked)[0])["jobs"][0]["schedule"] for _, marked, fault, _ in MISTAKES
                 if fault.startswith("job 0: schedule: "))

@@ -144,8 +144,7 @@ def test_a_long_report_is_cut(zsched):
     assert len(found["report"]) <= 500 and report.startswith(found["report"]) and found["report"].endswith("\n")
 
 
-# Requests: method, path, body (or how many spaces it has), headers, in which PORT is the server's, and the response's
-# status.
+# Requests: method, path, body (or its number of spaces), headers, in which PORT is the server's, and the status.
 @pytest.mark.parametrize("name, method, path, body, headers, status", rows("requests.jsonl"),
                          ids=lambda it: str(it)[:30])
 def test_requests_that_are_taken_and_rejected(url, name, method, path, body, headers, status):

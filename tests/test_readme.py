@@ -20,8 +20,7 @@ LEFT_OUT = {
 
 
 def commands(page):
-    """The commands of a page: lines of blocks, with the output that is shown (None: none is), and those in backquotes.
-    A tool that is named alone shows its help."""
+    """The commands of blocks and in backquotes, with the shown output or None. A tool named alone shows its help."""
     for found in re.finditer(r"^ *```(\w+)\n(.*?)^ *```$|`((?:\./|tools/zsched-|apt )[^`]*)`", page, re.M | re.S):
         language, text, inline = found.groups()
         if language == "console":

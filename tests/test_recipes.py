@@ -68,8 +68,7 @@ def test_lines_shown_are_lines_of_the_report(section):
 
 
 def blocks():
-    """The title of each section of commands, its files by name, and each of its commands with the output that is
-    shown."""
+    """The files by name of each section of commands, and each of its commands with the output that is shown."""
     for section in COMMANDS:
         found = BLOCK.findall(section)
         files = [text for language, text in found if language not in ("sh", "text")]

@@ -122,8 +122,7 @@ class Population:
         self.blocks = [plan_of(first, 1, 1)[1].rpartition(b"polls ")[0] for first in range(0, jobs + 1, BLOCK_OF_JOBS)]
 
     def place(self, ended):
-        """Where a run ended: the number of blocks before, and a line (after a block's last one if that was run). None
-        for the whole report."""
+        """Where a run ended: the number of blocks before, and a line (after a block's last if it was run), or None."""
         if ended == self.whole:
             return None
         status, output, errors = ended

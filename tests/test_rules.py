@@ -77,8 +77,7 @@ def unused(files):
 
 
 def limits_again(files):
-    """Limits that are written again where their constant can be seen, and those of definitions in other files that can
-    see these."""
+    """Limits written again where their constant can be seen, and those of definitions in files that can see these."""
     number = re.compile(r"(const MAX_\w+: \w+ = |^max_\w+ = )?(?<![\w.])(\d[\d_]{4,})\b(?! bytes)", re.M)
     found = [(path.split("/")[1], (path[-3:], it[2].replace("_", "")), it[1],
               place(path, text, it.end()) if path.endswith(".rt") else path)

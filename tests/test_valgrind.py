@@ -36,8 +36,7 @@ def case(name, workers, grain):
 
 
 def is_of_queue(error):
-    """Whether an error is an access to a queue's places, which another thread wrote without a lock, made by the
-    queue."""
+    """Whether an error is an access of a queue to its places, which another thread wrote without a lock."""
     place = error.findtext("stack/frame/fn") or ""
     return error.findtext("kind") in ["Race", "ConflictingAccess"] and place.startswith("crossbeam_queue::")
 
