@@ -1,6 +1,5 @@
 """The Rattle toolchain, and which crates crates.txt lists."""
 import dataclasses
-import fcntl
 import os
 import pathlib
 import shutil
@@ -39,43 +38,12 @@ def crates_of(top):
     return crates
 
 
-class Toolchain:
-    """The toolchain on this machine."""
-
-    def __init__(self):
-        command = shutil.which("rt")
-        if not command:
-            raise Unusable("the Rattle toolchain (the command 'rt') isn't on this machine")
-        self.kit = pathlib.Path(os.path.realpath(command)).parent.parent
-
-    def run(self, words, folder, log):
-        """Runs a command to its end, with its output in the log, and returns its status."""
-        with open(log, "wb") as out:
-            return subprocess.run([str(it) for it in words], cwd=folder, stdin=subprocess.DEVNULL, stdout=out,
-                                  stderr=subprocess.STDOUT, check=False).returncode
-
-
-def last_line(log):
-    """The last line of a log."""
-    lines = log.read_text(encoding="utf-8", errors="replace").strip().split("\n")
-    return lines[-1] if lines else ""
-
-
-def lock(crates, say):
-    """Waits until no other check works in these crates' folders, and keeps others out until the files are closed."""
-    held = []
-    for folder in sorted({it.folder for crate in crates for it in [crate, *crate.below]}):
-        number = os.open(folder, os.O_RDONLY)
-        held.append(number)
-        try:
-            fcntl.flock(number, fcntl.LOCK_EX | fcntl.LOCK_NB)
-        except BlockingIOError:
-            say(f"waiting for another check in {folder}")
-            fcntl.flock(number, fcntl.LOCK_EX)
-        except OSError:
-            # Some file systems have no locks.
-            pass
-    return held
+def kit():
+    """The folder of the toolchain on this machine."""
+    command = shutil.which("rt")
+    if not command:
+        raise Unusable("the Rattle toolchain (the command 'rt') isn't on this machine")
+    return pathlib.Path(os.path.realpath(command)).parent.parent
 
 
 def sources_sum(crate=LIBRARY):

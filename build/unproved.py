@@ -13,7 +13,8 @@ import tempfile
 
 sys.dont_write_bytecode = True
 
-from toolchain import TOP, Toolchain, Unusable
+import toolchain
+from toolchain import TOP, Unusable
 
 LINKER = """#!/bin/sh
 "{kit}/toolchain/bin/ld.lld" "$@" || exit
@@ -31,7 +32,7 @@ MARK = b"\nunproved\n"
 
 def build(folder, file, **variables):
     """Builds the program of the crate in a folder, or that of its tests if it is a library, into a file."""
-    kit = Toolchain().kit
+    kit = toolchain.kit()
     words, level = (["--test"], "-O0") if (folder / "src" / "lib.rt").exists() else ([], "-O1")
     with tempfile.TemporaryDirectory() as room:
         copy, program = pathlib.Path(room, "kit"), pathlib.Path(room, "program")
