@@ -67,13 +67,10 @@ def ran(words, **more):
 
 def symbols():
     """The version script of the shared library: its functions, each with the version that exports it."""
-    nodes = {}
-    for name, node in FUNCTIONS:
-        nodes.setdefault(node, []).append(name)
     text, before = "", ""
-    for node, names in sorted(nodes.items()):
-        rest = "" if text else " local: *;"
-        text += f"{node} {{ global: {' '.join(f'{name};' for name in names)}{rest} }}{before};\n"
+    for node in sorted({node for _, node in FUNCTIONS}):
+        names = " ".join(f"{name};" for name, its in FUNCTIONS if its == node)
+        text += f"{node} {{ global: {names}{'' if before else ' local: *;'} }}{before};\n"
         before = f" {node}"
     return text
 

@@ -279,13 +279,17 @@ def random_policy(seed):
         return None
 
 
+def edges(text):
+    """The inputs on which the tests of a policy may depend."""
+    ks = map(int, re.findall(r"[<=>] *(\d+)", text) if "nput" in text or "identity" in text else [])
+    return sorted({0, *(min(max(0, k + d), MOST) for k in ks for d in (-1, 0, 1))})
+
+
 def reached(text, s, shortest, longest_attempt):
     """The steps, at most DEEP, of at most MOST_HISTORIES histories over the inputs and durations that matter to a
     policy, and the bounds that these reach. A run has the attempt that the last step lets begin, even if it ends after
     LAST."""
-    ks = map(int, re.findall(r"[<=>] *(\d+)", text) if "nput" in text or "identity" in text else [])
-    inputs, late = sorted({0, *(min(max(0, k + d), MOST) for k in ks
-                                for d in (-1, 0, 1))}), longest_attempt or shortest + 2
+    inputs, late = edges(text), longest_attempt or shortest + 2
     is_timed = any(word in text for word in ("fixed", "windowed", "elapsed"))
     durations = {shortest, min(shortest + 1, late), late} if is_timed else {late}
     steps = max(n for n in range(1, DEEP + 1) if len(inputs) ** n * len(durations) ** (n - 1) <= MOST_HISTORIES)

@@ -57,12 +57,8 @@ TOKEN = re.compile(r"[A-Za-z]+|_[12]|\d+|&&|\|\||[<>!]=|[^ ]")
 NUM = ("num",)
 
 
-def filled(chance, form):
-    return re.sub(r"\b[NPCL]\b", lambda it: str(chance.choice(LETTERS[it[0]])), form)
-
-
-def leaf(chance):
-    return filled(chance, chance.choice(LEAVES))
+def filled(chance, form): return re.sub(r"\b[NPCL]\b", lambda it: str(chance.choice(LETTERS[it[0]])), form)
+def leaf(chance): return filled(chance, chance.choice(LEAVES))
 
 
 def fitting_tails(kind):

@@ -196,11 +196,7 @@ class History:
     pieces of a list cache the results on each of them."""
 
     def __init__(self, pairs, kept, begin, end):
-        self.pairs, self.kept, self.begin, self.end = pairs, kept, begin, end
-
-    @property
-    def n(self):
-        return self.end - self.begin
+        self.pairs, self.kept, self.begin, self.end, self.n = pairs, kept, begin, end, end - begin
 
     @property
     def before(self):
@@ -318,12 +314,9 @@ def mapped(function, number, out):
 
 
 def out_text(out):
-    if isinstance(out, int):
-        return str(out)
-    if isinstance(out, list):
-        return f"[{','.join(map(out_text, out))}]"
-    side, *parts = out
-    return f"{side.removeprefix('Pair')}({','.join(map(out_text, parts))})"
+    if isinstance(out, tuple):
+        return f"{out[0].removeprefix('Pair')}({','.join(map(out_text, out[1:]))})"
+    return f"[{','.join(map(out_text, out))}]" if isinstance(out, list) else str(out)
 
 
 def first_from(moment, ticks):

@@ -25,8 +25,7 @@ class Refuser:
         source = pathlib.Path(__file__).with_name("refuse.c")
         self.library, self.count = folder / "refuse.so", folder / "count"
         subprocess.run(["cc", "-shared", "-fPIC", "-O2", "-Wall", "-Werror", "-o", self.library, source, "-ldl",
-                        "-lpthread"],
-                       check=True)
+                        "-lpthread"], check=True)
 
     def run(self, program, text, **failures):
         """A run in which some things fail: at=3 means REFUSE_AT=3 of refuse.c."""

@@ -48,16 +48,12 @@ class Job(NamedTuple):
 
 def attempts_of(lines):
     """The attempts of these lines, or None if a line has another form or another number."""
-    attempts, at = [], 0
-    while at < len(lines):
-        found = ATTEMPT.match(lines, at)
-        if found is None or {found[1], found[6] or found[1]} != {str(len(attempts) + 1)}:
-            return None
-        _, begin, end, how, value, _, out, following = found.groups()
-        begin, end, value, following = (it and int(it) for it in (begin, end, value, following))
-        attempts.append(Attempt(begin, end, how, value, out, following))
-        at = found.end()
-    return attempts
+    found = [*ATTEMPT.finditer(lines)]
+    if "".join(it[0] for it in found) != lines or any(
+            {it[1], it[6] or it[1]} != {str(number)} for number, it in enumerate(found, 1)):
+        return None
+    numbers = [[it[at] and int(it[at]) for at in (2, 3, 5, 8)] for it in found]
+    return [Attempt(begin, end, it[4], value, it[7], after) for it, (begin, end, value, after) in zip(found, numbers)]
 
 
 def jobs_of(report):

@@ -9,7 +9,6 @@ import os
 import pathlib
 import re
 import shutil
-import signal
 import subprocess
 import sys
 import tempfile
@@ -85,14 +84,9 @@ def plant(crates, survivors):
 
 
 def ran(words, seconds, **variables):
-    """The status of a command, or None if it is not done after some seconds. Ends all that it started."""
-    with subprocess.Popen(words, cwd=TOP, env={**os.environ, **variables}, stdin=subprocess.DEVNULL,
-                          stdout=subprocess.DEVNULL, stderr=subprocess.DEVNULL, start_new_session=True) as running:
-        try:
-            return running.wait(seconds)
-        except subprocess.TimeoutExpired:
-            os.killpg(running.pid, signal.SIGTERM)
-            return None
+    """The status of a command, or 124 if it is not done after some seconds: then `timeout` ends all that it started."""
+    return subprocess.run(["timeout", str(seconds), *words], cwd=TOP, env={**os.environ, **variables}, check=False,
+                          stdin=subprocess.DEVNULL, stdout=subprocess.DEVNULL, stderr=subprocess.DEVNULL).returncode
 
 
 def fails(room, caught_by, number, seconds):
@@ -104,7 +98,7 @@ def fails(room, caught_by, number, seconds):
         words = [room / crate, *re.findall(rf"^((?:\w+::)*{name}): test$", listed, re.M)]
         assert len(words) == 2, f"{crate} has no test {name}, or several"
     status = ran(words, seconds, ZS_CHOSEN=str(number), ZSCHED=str(room / "zsched"))
-    assert not crate.endswith(".py") or status in [0, 1, None], f"pytest can't run {caught_by}: status {status}"
+    assert not crate.endswith(".py") or status in [0, 1, 124], f"pytest can't run {caught_by}: status {status}"
     return status != 0, time.monotonic() - begun
 
 

@@ -7,17 +7,18 @@ import json
 import random
 import re
 
+import bounds as intervals
 import generator
 import pytest
 import reference
 import zio_model as zio
 from support import run
+from test_bounds import options
 
 POLICIES = 400      # of each kind
 # The most steps of a history, and about how much is looked at of a policy: those that have more aren't counted.
 STEPS, WORK, LAST = 40, 60000, reference.LAST_TICK
-# The least and the most percentage of waits, how late an attempt may begin, and the longest wait that is asked for.
-EXACT = (100, 100, 0, 0)
+# Waits of drivers, as in bounds.py.
 SPREAD = [(0, 100, 0, 0), (50, 100, 0, 0), (80, 120, 0, 0), (50, 150, 1, 0), (100, 100, 3, 0), (100, 100, 0, 7),
           (33, 67, 2, 5)]
 ATTEMPTS = [(1, 1), (1, 3), (2, 6), (1, 8), (3, 12)]
@@ -109,17 +110,11 @@ def random_policy(chance):
                           f"({text} && elapsed.whileOutput(< {chance.choice(range(3, 21))}))"])
 
 
-def edges(text):
-    """The inputs on which the tests of a policy may depend."""
-    ks = map(int, re.findall(r"[<=>] *(\d+)", text) if "nput" in text or "identity" in text else [])
-    return sorted({0, *(max(0, k + d) for k in ks for d in (-1, 0, 1))})
-
-
 def policies(make, has_waits):
     """Policies by what their driver may do: durations of attempts and waits."""
     chance, made = random.Random(2026), collections.defaultdict(list)
     for _ in range(POLICIES):
-        driver = chance.choice(ATTEMPTS), chance.choice(SPREAD) if has_waits else EXACT
+        driver = chance.choice(ATTEMPTS), chance.choice(SPREAD) if has_waits else intervals.EXACT
         text = make(chance)
         with contextlib.suppress(reference.Fault):
             made[driver].append((text, reference.read_schedule(text.encode())))
@@ -128,11 +123,8 @@ def policies(make, has_waits):
 
 def said(program, driver, texts):
     """What zsched-bounds prints of policies and a driver, as `Reached` has it."""
-    (shortest, longest), (low, high, late, asked) = driver
-    options = ["--attempt", f"{shortest}ms..{longest}ms", "--steps", str(STEPS)]
-    if driver[1] != EXACT:
-        options += ["--wait", f"{low}..{high}%", "--late", f"{late}ms", "--asked", f"{asked}ms"]
-    status, output, errors = run([program, *options], "\n".join(texts).encode() + b"\n")
+    words = [program, *options(*driver), "--steps", str(STEPS)]
+    status, output, errors = run(words, "\n".join(texts).encode() + b"\n")
     assert (status, errors) == (0, b"")
     for line in map(json.loads, output.splitlines()):
         yield *line["attempts"].values(), *(line[it] for it in ("longest_wait", "total_wait", "longest_run"))
@@ -152,7 +144,7 @@ def test_bounds_hold_for_all_that_a_driver_does_and_most_are_reached(kind, bound
     met, had, histories = [0] * 5, 0, 0
     for driver, made in policies(make, has_waits).items():
         for (text, s), numbers in zip(made, said(bounds, driver, [text for text, _ in made]), strict=True):
-            it = Reached(s, edges(text), driver)
+            it = Reached(s, intervals.edges(text), driver)
             histories += it.histories
             least, *greatest = numbers
             reached = it.most, it.wait, it.total, it.run

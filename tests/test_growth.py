@@ -55,16 +55,9 @@ class Row(NamedTuple):
         return eval(self.made, globals() | {"n": n})
 
 
-def plan(jobs, **more):
-    return test_large_plans.plan(jobs, **{"horizon": FAR, **more}).decode()
-
-
-def one(schedule, values=(0,), **more):
-    return plan([job(0, schedule, values)], **more)
-
-
-def jobs_of(count, schedule, **more):
-    return plan([job(number, schedule) for number in range(count)], **more)
+def plan(jobs, **more): return test_large_plans.plan(jobs, **{"horizon": FAR, **more}).decode()
+def one(schedule, values=(0,), **more): return plan([job(0, schedule, values)], **more)
+def jobs_of(count, schedule, **more): return plan([job(number, schedule) for number in range(count)], **more)
 
 
 def pairs(count, value=None):

@@ -32,21 +32,10 @@ def drawn_by(*words, text):
     return ElementTree.fromstring(output(*words, text=text))
 
 
-def classed(root, kind, style):
-    return [it for it in root.iter(SVG + kind) if it.get("class") == style]
-
-
-def titles(root):
-    return [it.text for it in root.iter(f"{SVG}title") if it.text.startswith("attempt")]
-
-
-def bars(root):
-    return [it for it in root.iter(f"{SVG}rect") if it.find(f"{SVG}title") is not None]
-
-
-def begun(root):
-    found = [re.search(r"(\d+) begun, ", it.text) for it in root.iter(f"{SVG}title")]
-    return [int(it[1]) for it in found if it]
+def classed(root, kind, style): return [it for it in root.iter(SVG + kind) if it.get("class") == style]
+def titles(root): return [it.text for it in root.iter(f"{SVG}title") if it.text.startswith("attempt")]
+def bars(root): return [it for it in root.iter(f"{SVG}rect") if it.find(f"{SVG}title") is not None]
+def begun(root): return [int(it) for one in root.iter(f"{SVG}title") for it in re.findall(r"(\d+) begun, ", one.text)]
 
 
 def path_places(steps):

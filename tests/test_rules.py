@@ -49,16 +49,11 @@ def functions(files):
 
 
 def count_parameters(text):
-    within, count, is_begun = "", 0, False
-    for char in text[text.index("fn "):].replace("->", ""):
-        if char in "(<[{":
-            within += char
-        elif char in ")>]}":
-            if within == "(":
-                return count + is_begun
-            within = within[:-1]
-        elif within == "(":
-            count, is_begun = (count + 1, False) if char == "," else (count, is_begun or not char.isspace())
+    text = text[text.index("fn "):].replace("->", "")
+    while (less := re.sub(r"<[^<>]*>|\[[^][]*\]", "", text)) != text:
+        text = less
+    inside = re.match(r"fn \w+\(((?:[^()]|\([^()]*\))*)\)", text)[1]
+    return sum(bool(it.strip()) for it in re.sub(r"\([^()]*\)", "", inside).split(","))
 
 
 def unused(files):

@@ -4,9 +4,12 @@ up."""
 import itertools
 import json
 import os
-import re
 import subprocess
 import sys
+
+sys.dont_write_bytecode = True
+
+from reports import jobs_of
 
 MOST = int(sys.argv[1]) if len(sys.argv) > 1 else 12
 for text in sys.stdin:
@@ -14,8 +17,6 @@ for text in sys.stdin:
     job = {"name": "it", "mode": "retry", "schedule": text.rstrip("\n"), "script": script[:1000]}
     plan = json.dumps({"horizon": 999_999_999_999_999, "jobs": [job]})
     report = subprocess.run(os.environ["ZSCHED"], input=plan, capture_output=True, text=True, check=True).stdout
-    moments = [(int(begin), int(end)) for begin, end in re.findall(r"attempt \d+ (\d+)\.\.(\d+)", report)][:MOST + 1]
-    waits = [later[0] - earlier[1] for earlier, later in zip(moments, moments[1:])]
-    runs = [(wait, len(list(group))) for wait, group in itertools.groupby(waits)]
-    shown = [str(wait) if count == 1 else f"{wait}*{count}" for wait, count in runs]
-    print(*shown, *["end"] * ("end failed" in report))
+    [ran] = jobs_of(report)
+    runs = [(wait, len(list(group))) for wait, group in itertools.groupby(ran.waits[:MOST])]
+    print(*[str(wait) if count == 1 else f"{wait}*{count}" for wait, count in runs], *["end"] * (ran.how == "failed"))
