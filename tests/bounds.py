@@ -21,8 +21,6 @@ WAITS = [EXACT, EXACT, (0, 100, 0, 0), (80, 120, 0, 0), (50, 150, 3, 0), (100, 1
 PLACES = {None: [], "_1": [1], "_2": [2], "size": [0]}
 # The least and the greatest duration of attempts.
 DURATIONS = [ANY, ANY, (1, 1), (1, 8), (2, 3), (1, 5001), (20, 5020)]
-# The most steps of histories of small policies, and the most histories.
-DEEP, MOST_HISTORIES = 7, 20000
 
 
 # Ranges of outputs: ("num", low, high), ("pair", a, b), ("sum", left or None, right or None), ("items", low, high).
@@ -265,6 +263,15 @@ def bounds(s, durations=ANY, most=None, waits=EXACT):
             "longest_wait": longest, "total_wait": total, "longest_run": run, "steps_seen": n}
 
 
+def options(durations, waits):
+    """The options of zsched-bounds for durations of attempts and waits of a driver."""
+    least, most, late, asked = waits
+    return [*([] if durations[1] is None else ["--attempt", "{}ms..{}ms".format(*durations)]),
+            *([] if waits == EXACT else [
+                "--wait", f"{least}..{most}%", "--asked", f"{asked}ms",
+                "--late", "any" if late == MOST else f"{late}ms"])]
+
+
 def policy(chance):
     nodes = chance.choice([1, 2, 3, 4, 5, 7, 10, 14])
     return generator.spelled(chance, generator.made_term(chance, nodes)[0]).strip()
@@ -283,50 +290,3 @@ def edges(text):
     """The inputs on which the tests of a policy may depend."""
     ks = map(int, re.findall(r"[<=>] *(\d+)", text) if "nput" in text or "identity" in text else [])
     return sorted({0, *(min(max(0, k + d), MOST) for k in ks for d in (-1, 0, 1))})
-
-
-def reached(text, s, shortest, longest_attempt):
-    """The steps, at most DEEP, of at most MOST_HISTORIES histories over the inputs and durations that matter to a
-    policy, and the bounds that these reach. A run has the attempt that the last step lets begin, even if it ends after
-    LAST."""
-    inputs, late = edges(text), longest_attempt or shortest + 2
-    is_timed = any(word in text for word in ("fixed", "windowed", "elapsed"))
-    durations = {shortest, min(shortest + 1, late), late} if is_timed else {late}
-    steps = max(n for n in range(1, DEEP + 1) if len(inputs) ** n * len(durations) ** (n - 1) <= MOST_HISTORIES)
-    least, most, longest, total, run = steps + 1, 0, 0, 0, 0
-    open_histories = [([(0, i)], 0) for i in inputs]
-    while open_histories:
-        pairs, waited = open_histories.pop()
-        n = len(pairs)
-        _, x = reference.step(s, reference.History(pairs, {}, 0, n))
-        run = max(run, late + (pairs[-1][0] if x is None else x + late))
-        if x is None:
-            least, most, total = min(least, n), max(most, n), max(total, waited)
-            continue
-        wait = x - pairs[-1][0]
-        longest, total = max(longest, wait), max(total, waited + wait)
-        if n == steps:
-            most = steps + 1
-        else:
-            open_histories += [([*pairs, (x + d, i)], waited + wait) for d in durations if x + d <= LAST
-                               for i in inputs]
-    return steps, (least, most, longest, total, run)
-
-
-def tightness(seeds):
-    """How many bounds of small policies without `resetWhen`, of which three of four have an end, some history reaches
-    exactly within the same steps: for each of the five bounds the number of policies that reach it, and that have
-    it."""
-    met, had = [0] * 5, [0] * 5
-    for seed in seeds:
-        found, durations = random_policy(seed), random.Random(seed).choice(DURATIONS)
-        if found is None or len(found[0]) >= 60 or "resetWhen" in found[0]:
-            continue
-        text = f"({found[0]} && recurs({seed % 4}))" if seed % 4 else found[0]
-        s = reference.read_schedule(text.encode())
-        steps, histories = reached(text, s, *durations)
-        b = bounds(s, durations, steps)
-        said = [min(b["attempts"]["least"], steps + 1), b["attempts"]["most"] or steps + 1]
-        said += [b[key] for key in ("longest_wait", "total_wait", "longest_run")]
-        met, had = zip(*((m + (x == y), h + (x is not None)) for m, h, x, y in zip(met, had, said, histories)))
-    return met, had

@@ -11,21 +11,15 @@ import bounds as intervals
 import generator
 import reference
 from support import run
+from test_driven import Reached
 
 # The interval run takes long for many steps: only every hundredth policy has all of them.
 SHORT, EVERY = 100, int(os.environ.get("ZSCHED_LONG", "100"))
 # How many driven histories a policy has, and the steps of each.
 HISTORIES, HISTORY_STEPS = 3, 40
+# The most steps of histories of small policies.
+DEEP = 7
 INPUTS = [0, 1, 2, 3, 4, 5, 7, 404, 503, intervals.MOST]
-
-
-def options(durations, waits):
-    """The options of zsched-bounds for durations of attempts and waits of a driver."""
-    least, most, late, asked = waits
-    return [*([] if durations[1] is None else ["--attempt", "{}ms..{}ms".format(*durations)]),
-            *([] if waits == intervals.EXACT else [
-                "--wait", f"{least}..{most}%", "--asked", f"{asked}ms",
-                "--late", "any" if late == intervals.MOST else f"{late}ms"])]
 
 
 def follow(chance, s, b, waits):
@@ -62,7 +56,8 @@ def test_no_driven_history_leaves_the_bounds_and_the_interval_run_has_them(chunk
         except reference.Fault:     # of many `resetWhen`
             return
         steps = intervals.STEPS if is_long else SHORT
-        status, output, errors = run([bounds, *options(durations, waits), "--steps", str(steps)], f"{text}\n".encode())
+        given = [*intervals.options(durations, waits), "--steps", str(steps)]
+        status, output, errors = run([bounds, *given], f"{text}\n".encode())
         assert (status, errors) == (0, b"")
         line = json.loads(output)
         assert reference.read_schedule(line.pop("policy").encode()) == s
@@ -75,6 +70,19 @@ def test_no_driven_history_leaves_the_bounds_and_the_interval_run_has_them(chunk
 
 
 def test_histories_and_bounds_of_small_policies_meet():
-    """Some history reaches nine of ten of each bound. The longest run counts an attempt within a period twice."""
-    met, had = intervals.tightness(range(1000))
+    """Some history reaches nine of ten of each bound. The longest run counts an attempt within a period twice. Of four
+    policies without `resetWhen` three have an end."""
+    met, had = [0] * 5, [0] * 5
+    for seed in range(1000):
+        found, durations = intervals.random_policy(seed), random.Random(seed).choice(intervals.DURATIONS)
+        if found is None or len(found[0]) >= 60 or "resetWhen" in found[0]:
+            continue
+        text = f"({found[0]} && recurs({seed % 4}))" if seed % 4 else found[0]
+        s, (least, most) = reference.read_schedule(text.encode()), durations
+        it = Reached(s, intervals.edges(text), ((least, most or least + 2), intervals.EXACT), DEEP, is_sampled=True)
+        b, beyond = intervals.bounds(s, durations, it.most), it.most + 1
+        said = [min(b["attempts"]["least"], beyond), b["attempts"]["most"] or beyond]
+        said += [b[key] for key in ("longest_wait", "total_wait", "longest_run")]
+        reached = it.least or beyond, beyond if it.open else it.most, it.wait, it.total, it.run
+        met, had = zip(*((m + (x == y), h + (x is not None)) for m, h, x, y in zip(met, had, said, reached)))
     assert min(had) >= 120 and all(10 * reached >= 9 * of for reached, of in zip(met, had)), (met, had)

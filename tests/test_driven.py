@@ -13,7 +13,6 @@ import pytest
 import reference
 import zio_model as zio
 from support import run
-from test_bounds import options
 
 POLICIES = 400      # of each kind
 # The most steps of a history, and about how much is looked at of a policy: those that have more aren't counted.
@@ -55,15 +54,15 @@ def schedule_of(s):
 
 class Reached:
     """What all histories of a driver reach: the least and the most steps, the longest wait, all waits, the longest run.
-    A history begins with a step at moment 0, which is the end of the first attempt."""
+    A history begins with a step at moment 0, which is the end of the first attempt. Of many durations three may do."""
 
-    def __init__(self, s, inputs, driver):
+    def __init__(self, s, inputs, driver, steps=STEPS, is_sampled=False):
         (self.shortest, self.longest), (self.low, self.high, self.late, self.asked) = driver
         self.least, self.most, self.wait, self.total, self.run = None, 0, 0, 0, self.longest
-        schedule = schedule_of(s)
+        schedule, self.is_sampled = schedule_of(s), is_sampled
         # Steps of one state at one moment: the longest waits before it, and the number of histories up to it.
         self.histories, self.work, self.open = 0, 0, {(schedule.initial, 0): (0, 1)}
-        while self.open and self.most < STEPS and self.work < WORK:
+        while self.open and self.most < steps and self.work < WORK:
             before, self.open, self.most = self.open, {}, self.most + 1
             for (state, m), (waited, histories) in before.items():
                 for i in inputs:
@@ -84,6 +83,7 @@ class Reached:
         least, most = wait * self.low // 100, max(-(-wait * self.high // 100), self.asked) + self.late
         self.see(m, waited, most, self.longest)
         times = range(least + self.shortest, min(most + self.longest, LAST - m) + 1)
+        times = sorted({*times[:2], *times[-1:]}) if self.is_sampled else times
         self.work += len(times)
         for time in times if self.work < WORK else times[-1:]:
             longest, number = self.open.get((after, m + time), (0, 0))
@@ -123,7 +123,7 @@ def policies(make, has_waits):
 
 def said(program, driver, texts):
     """What zsched-bounds prints of policies and a driver, as `Reached` has it."""
-    words = [program, *options(*driver), "--steps", str(STEPS)]
+    words = [program, *intervals.options(*driver), "--steps", str(STEPS)]
     status, output, errors = run(words, "\n".join(texts).encode() + b"\n")
     assert (status, errors) == (0, b"")
     for line in map(json.loads, output.splitlines()):
