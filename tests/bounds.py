@@ -38,8 +38,7 @@ def join(a, b):
     return (a[0], *hull(a[1:], b[1:])) if a[0] in ("num", "items") else (a[0], join(a[1], b[1]), join(a[2], b[2]))
 
 
-def either(a, b):
-    return (join(a[0], b[0]), hull(a[1], b[1]), a[2] or b[2]) if a and b else a or b
+def either(a, b): return (join(a[0], b[0]), hull(a[1], b[1]), a[2] or b[2]) if a and b else a or b
 
 
 def tested(interval, comparison, k):

@@ -127,8 +127,7 @@ class Part(threading.Thread):
         print("\n".join([*shown, *[f"check: {self.name} has failed: {it}" for it in why]]), flush=True)
 
 
-def python(name, *words):
-    return [sys.executable, str(TOP / "tests" / name), *words]
+def python(name, *words): return [sys.executable, str(TOP / "tests" / name), *words]
 
 
 def run(given, files, running):

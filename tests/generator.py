@@ -370,5 +370,4 @@ def any_plan(chance):
     return mutated(chance, text) if form > 35 else text
 
 
-def plan_of(seed):
-    return any_plan(random.Random(seed))
+def plan_of(seed): return any_plan(random.Random(seed))

@@ -29,8 +29,7 @@ def total(crate):
     return hashlib.sha256(b"\0".join(b"%s\0%s" % (str(path).encode(), path.read_bytes()) for path in files)).hexdigest()
 
 
-def noted():
-    return json.loads(NOTE.read_text()) if NOTE.exists() else {}
+def noted(): return json.loads(NOTE.read_text()) if NOTE.exists() else {}
 
 
 def note(sums):

@@ -48,8 +48,7 @@ def rows(name):
     return [json.loads(line) for line in (TOP / "tests" / name).read_text(encoding="utf-8").splitlines()]
 
 
-def report_beside(path):
-    return path.with_name(path.name + ".stdout").read_bytes()
+def report_beside(path): return path.with_name(path.name + ".stdout").read_bytes()
 
 
 def recut(text, workers, grain):

@@ -21,8 +21,7 @@ STREAMS = ["status", "stdout", "stderr"]
 PATIENCE = 600
 
 
-def content(path):
-    return path.read_bytes() if path.is_file() else b""
+def content(path): return path.read_bytes() if path.is_file() else b""
 
 
 def needs(case):

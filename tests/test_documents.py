@@ -18,8 +18,7 @@ FORMATS = (TOP / "docs" / "FORMATS.md").read_text()
 each_page = pytest.mark.parametrize("page", PAGES, ids=lambda page: str(page.relative_to(TOP)))
 
 
-def anchor_of(title):
-    return re.sub(r"[^a-z0-9_ -]", "", title.lower()).replace(" ", "-")
+def anchor_of(title): return re.sub(r"[^a-z0-9_ -]", "", title.lower()).replace(" ", "-")
 
 
 def anchors_of(page):

@@ -51,8 +51,7 @@ class Row(NamedTuple):
     status: float = 0
     times: float = 4.4
 
-    def input(self, n):
-        return eval(self.made, globals() | {"n": n})
+    def input(self, n): return eval(self.made, globals() | {"n": n})
 
 
 def plan(jobs, **more): return test_large_plans.plan(jobs, **{"horizon": FAR, **more}).decode()

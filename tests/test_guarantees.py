@@ -19,8 +19,7 @@ NAMED = re.compile(r'^(?:fn |    (?:    )?\(?\s*")(\w+)', re.M)
 each_crate = pytest.mark.parametrize("crate", guarantees.CRATES)
 
 
-def quoted(text):
-    return " ".join(re.findall(r"`([^`]*)`", text)).split()
+def quoted(text): return " ".join(re.findall(r"`([^`]*)`", text)).split()
 
 
 def test_the_page_is_printed_from_the_sources():

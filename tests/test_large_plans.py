@@ -22,8 +22,7 @@ def job(number, schedule, values=(0,), ms=1, mode="repeat", **more):
     return {"name": f"j{number}", "mode": mode, "schedule": schedule, "script": script, **more}
 
 
-def plan(jobs, **more):
-    return json.dumps({**more, "jobs": jobs}, separators=(",", ":")).encode()
+def plan(jobs, **more): return json.dumps({**more, "jobs": jobs}, separators=(",", ":")).encode()
 
 
 def collected(length, value):
@@ -78,8 +77,7 @@ def lines_of(name, outs, start=0, ms=1, value=0):
     return [*lines, f"end finished {outs[-1]} at {at} polls {len(outs) + 1}"]
 
 
-def ended(lines, polls):
-    return 0, "\n".join([*lines, f"polls {polls}", ""]).encode(), b""
+def ended(lines, polls): return 0, "\n".join([*lines, f"polls {polls}", ""]).encode(), b""
 
 
 def many_attempts(count):

@@ -42,8 +42,7 @@ def figures_of(zsched, parts):
     return read(parts), {name: simulated(zsched, parts, name)[-1] for name in parts["policies"]}
 
 
-def picture(found, figures, *more):
-    return "\n".join(panels.draw_curves(found, figures, *more))
+def picture(found, figures, *more): return "\n".join(panels.draw_curves(found, figures, *more))
 
 
 def test_the_recipe_shows_the_case():
@@ -68,8 +67,7 @@ def laid(rows):
     return found
 
 
-def outcome(how, code):
-    return st.integers(1, 90).map(lambda ms: {"ms": ms, how: code})
+def outcome(how, code): return st.integers(1, 90).map(lambda ms: {"ms": ms, how: code})
 
 
 POLICIES = ["spaced(300)", "exponential(rand(50, 150))", "(exponential(100) || spaced(700))", "fixed(350)",

@@ -287,8 +287,7 @@ def test_letters_are_readable_on_each_ground_by_day_and_at_night():
     assert min(int(size) for size in re.findall(r"font(?:-size)?: (?:600 )?(\d+)px", TEXT)) >= 11
 
 
-def shown(**fields):
-    return opened(f"file://{PAGE}#{urllib.parse.urlencode(fields)}" if fields else f"file://{PAGE}")
+def shown(**fields): return opened(f"file://{PAGE}#{urllib.parse.urlencode(fields)}" if fields else f"file://{PAGE}")
 
 
 @pytest.mark.full

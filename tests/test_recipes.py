@@ -24,8 +24,7 @@ COMMANDS = COMMANDS.split("\n### ")[1:]
 BLOCK = re.compile(r"^```(\w+)\n(.*?)^```$", re.MULTILINE | re.DOTALL)
 
 
-def title_of(section):
-    return section.split("\n")[0]
+def title_of(section): return section.split("\n")[0]
 
 
 each_task = pytest.mark.parametrize("section", SECTIONS, ids=title_of)
@@ -114,8 +113,7 @@ def rows():
 SAME = {name: text for name, text, said in rows() if said.startswith("same")}
 
 
-def part(schedule, text):
-    return types.SimpleNamespace(model=schedule, text=text)
+def part(schedule, text): return types.SimpleNamespace(model=schedule, text=text)
 
 
 def parts_of(row, k):

@@ -26,8 +26,7 @@ FORMS = "Term|Out|Kind|Pick|Func|Cmp|Plain|Counted|Modifier|Pairing|Infix|State|
 DEFAULT = re.compile(rf"^( *)(?:{FORMS})::.*\n(?:(?:\1.*)?\n)*?\1(?=_ =>)", re.M)
 
 
-def words_of(text):
-    return set(re.findall(r"\w+", re.sub(r"(?m)^\s*//.*", "", text)))
+def words_of(text): return set(re.findall(r"\w+", re.sub(r"(?m)^\s*//.*", "", text)))
 
 
 COMPILED = "\n".join(path.read_text() for path in TOP.glob("crates/zs*tests/src/tests/surface.rt"))
@@ -36,8 +35,7 @@ SURFACE = words_of(COMPILED + (TOP / "include" / "zsched.h").read_text())
 CALLED = words_of(" ".join(re.findall(r"(?m)(?:\.|::)\w+\(|^use zs_\w+::[^;]*;", COMPILED)))
 
 
-def place(path, text, at):
-    return f"{path}:{text.count(chr(10), 0, at) + 1}"
+def place(path, text, at): return f"{path}:{text.count(chr(10), 0, at) + 1}"
 
 
 def functions(files):

@@ -25,8 +25,7 @@ README = (TOP / "README.md").read_text()
 SHOWN = re.findall(r"```console\n\$ tools/zsched-try (.*?)\n(.*?)```", README + "".join(SECTIONS), re.S)
 
 
-def tool(*words):
-    return run_here(command.main, ["zsched-try", *words])
+def tool(*words): return run_here(command.main, ["zsched-try", *words])
 
 
 @pytest.mark.parametrize("seed", range(12))
