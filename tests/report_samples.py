@@ -20,13 +20,11 @@ def wide_report(jobs, attempts):
     """Retries that start apart, each with `attempts` attempts and growing waits."""
     lines = []
     for job in range(jobs):
+        begins = [37 * job + (30 + job) * number + 50 * number * (number + 1) for number in range(attempts)]
         lines.append(f"job service-{job:03} retry")
-        begin = 37 * job
-        for number in range(1, attempts):
-            end = begin + 30 + job
-            lines += [f"attempt {number} {begin}..{end} err 503",
-                      f"step {number} out {100 * number} next {end + 100 * number}"]
-            begin = end + 100 * number
-        lines += [f"attempt {attempts} {begin}..{begin + 50} ok {job}",
-                  f"end succeeded {job} at {begin + 50} polls {2 * attempts}"]
+        for number, (begin, after) in enumerate(zip(begins, begins[1:]), 1):
+            lines += [f"attempt {number} {begin}..{begin + 30 + job} err 503",
+                      f"step {number} out {100 * number} next {after}"]
+        lines += [f"attempt {attempts} {begins[-1]}..{begins[-1] + 50} ok {job}",
+                  f"end succeeded {job} at {begins[-1] + 50} polls {2 * attempts}"]
     return "\n".join([*lines, f"polls {2 * attempts * jobs}", ""])

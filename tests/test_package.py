@@ -240,10 +240,8 @@ def npm(root):
     need("npm")
     ran(["npm", "install", "--offline", "--no-audit", "--no-fund", *packages(root, "node")], root.folder,
         npm_config_cache="cache")
-    ended = subprocess.run(["node", "-e", "require('zsched')"], cwd=root.folder, capture_output=True, text=True,
-                           check=False, env=CLEAN | {"ZSCHED_NODE": "/nowhere"})
-    assert ("Error: zsched: /nowhere can't be loaded on linux on x64. The package has it for Linux on x64"
-            in ended.stderr)
+    said = refused(["node", "-e", "require('zsched')"], root.folder, ZSCHED_NODE="/nowhere")
+    assert "Error: zsched: /nowhere can't be loaded on linux on x64. The package has it for Linux on x64" in said
     shutil.copy(CLIENTS / "client.js", root.folder)
     return Client(["node", root.folder / "client.js"], {})
 
