@@ -12,7 +12,7 @@ sys.dont_write_bytecode = True
 import hypothesis
 import pytest
 
-from support import TOP, floors
+from support import TOP, built, floors
 
 # In which a skipped test is a failure.
 STRICT = [name for name in ["CI", "ZSCHED_GATE"] if os.environ.get(name)]
@@ -93,9 +93,9 @@ def program(variable, crate):
     """The path of a built program, as a fixture: the one that a variable names, or the one of its crate."""
     @pytest.fixture(scope="session")
     def found():
-        path = pathlib.Path(os.environ.get(variable) or TOP / "crates" / crate / "out" / crate)
-        built = "./run --proved builds zsched, ./check all"
-        assert os.access(path, os.X_OK), f"{path} isn't built ({built}), and {variable} names no other"
+        path = pathlib.Path(os.environ.get(variable) or built(crate))
+        how = "./run --proved builds zsched, ./check all"
+        assert os.access(path, os.X_OK), f"{path} isn't built ({how}), and {variable} names no other"
         return path
     return found
 

@@ -25,7 +25,7 @@ import time
 sys.dont_write_bytecode = True
 
 import quick
-from support import POPULATION, REFUSALS, TOP, floors
+from support import TOP, built, floors
 from toolchain import sources_sum
 
 # The checksum of all files with which the gate passed, for build/release.
@@ -195,8 +195,7 @@ def gate(given, files):
     before, tree = [{name: sources_sum(name) for name in STAMPS}, sources_sum("--all")]
     begun = time.monotonic()
     if is_whole:
-        for old in [POPULATION, REFUSALS, PASSED, *STAMPS.values(),
-                    *(stamp.with_name(name) for name, stamp in STAMPS.items())]:
+        for old in [*map(built, ["zsched_population", "zs_refusals", *STAMPS]), PASSED, *STAMPS.values()]:
             old.unlink(missing_ok=True)
     run(given, files, running)
     print(table(running, time.monotonic() - begun))

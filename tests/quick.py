@@ -14,12 +14,12 @@ import sys
 
 sys.dont_write_bytecode = True
 
-from support import TOP, ZSCHED
+from support import TOP, built
 from toolchain import crates_of, sources_sum
 
 CRATES = crates_of(TOP)
 # The checksum of each crate's files when it was last proved here.
-NOTE = ZSCHED.with_name("checked.json")
+NOTE = built("zsched").with_name("checked.json")
 
 
 def total(crate):
@@ -56,7 +56,7 @@ def proves(crate):
 
 def runs_plans():
     """Whether the plans give their reports, on the program without proofs."""
-    program = ZSCHED.with_name(f"unproved-{sources_sum('zsched')}")
+    program = NOTE.with_name(f"unproved-{sources_sum('zsched')}")
     words = [sys.executable, "-m", "pytest", "-q", "-n", "auto", "tests/test_cases.py", "-k", "beside and as_it_is"]
     build = [sys.executable, "build/unproved.py", "zsched", program]
     is_built = program.exists() or succeeds("zsched without proofs", build, TOP)

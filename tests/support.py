@@ -12,10 +12,6 @@ from unittest import mock
 TOP = pathlib.Path(__file__).resolve().parent.parent
 sys.path[:0] = [str(TOP / "build"), str(TOP / "tools")]
 
-ZSCHED = TOP / "crates" / "zsched" / "out" / "zsched"
-POPULATION = TOP / "crates" / "zsched_population" / "out" / "zsched_population"
-REFUSALS = TOP / "crates" / "zs_refusals" / "out" / "zs_refusals"
-
 SCRIPT = '"script":[{"ms":5,"err":7},{"ms":5,"ok":1}]'
 ONE_JOB = ('{"horizon":1000,"jobs":[{"name":"a","mode":"retry","schedule":"recurs(3)",' + SCRIPT + "}]}").encode()
 BLOCK = """job {} retry
@@ -25,6 +21,9 @@ attempt 2 5..10 ok 1
 end succeeded 1 at 10 polls 3
 """
 ONE_REPORT = (BLOCK.format("a") + "polls 3\n").encode()
+
+
+def built(crate): return TOP / "crates" / crate / "out" / crate
 
 
 def job(name="a", schedule="recurs(3)", mode="retry", script=SCRIPT, more=""):

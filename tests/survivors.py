@@ -83,12 +83,6 @@ def plant(crates, survivors):
         root.write_text(f"{root.read_text(encoding='utf-8')}\nmod chosen;\n", encoding="utf-8")
 
 
-def ran(words, seconds, **variables):
-    """The status of a command, or 124 if it is not done after some seconds: then `timeout` ends all that it started."""
-    return subprocess.run(["timeout", str(seconds), *words], cwd=TOP, env={**os.environ, **variables}, check=False,
-                          stdin=subprocess.DEVNULL, stdout=subprocess.DEVNULL, stderr=subprocess.DEVNULL).returncode
-
-
 def fails(room, caught_by, number, seconds):
     """Whether a test fails with the body of this number, or isn't done after some seconds; and how long it took."""
     crate, _, name = caught_by.partition("::")
@@ -97,7 +91,10 @@ def fails(room, caught_by, number, seconds):
         listed = subprocess.run([room / crate, "--list"], capture_output=True, text=True, check=True).stdout
         words = [room / crate, *re.findall(rf"^((?:\w+::)*{name}): test$", listed, re.M)]
         assert len(words) == 2, f"{crate} has no test {name}, or several"
-    status = ran(words, seconds, ZS_CHOSEN=str(number), ZSCHED=str(room / "zsched"))
+    # `timeout` ends all that the test started, and has the status 124 then.
+    status = subprocess.run(["timeout", str(seconds), *words], cwd=TOP, stdin=subprocess.DEVNULL, check=False,
+                            stdout=subprocess.DEVNULL, stderr=subprocess.DEVNULL, env={
+                                **os.environ, "ZS_CHOSEN": str(number), "ZSCHED": str(room / "zsched")}).returncode
     assert not crate.endswith(".py") or status in [0, 1, 124], f"pytest can't run {caught_by}: status {status}"
     return status != 0, time.monotonic() - begun
 

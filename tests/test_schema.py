@@ -1,5 +1,6 @@
 """docs/plan.schema.json: what it accepts, what it rejects, and that the program rejects whatever it rejects. The
 validator is the Python package jsonschema (Debian: python3-jsonschema)."""
+import contextlib
 import json
 import random
 import re
@@ -35,6 +36,12 @@ def described(part, place):
 KEYS = dict(described(SCHEMA, "plan"))
 
 
+def accepts(data):
+    """Whether the schema accepts a plan, or None if it isn't JSON."""
+    with contextlib.suppress(ValueError, RecursionError):
+        return VALIDATOR.is_valid(json.loads(data))
+
+
 def test_it_is_a_schema():
     jsonschema.Draft202012Validator.check_schema(SCHEMA)
 
@@ -50,35 +57,32 @@ def test_ranges_and_units_are_described(key, text):
 
 @pytest.mark.parametrize("path", plans_with_reports(), ids=lambda path: path.stem)
 def test_it_accepts_a_plan_of_the_repository(path):
-    assert VALIDATOR.is_valid(json.loads(path.read_bytes()))
+    assert accepts(path.read_bytes())
 
 
 def test_it_accepts_random_schedules():
     chance = random.Random(20)
     for _ in range(500):
         text = generator.spelled(chance, generator.made_term(chance, chance.choice([1, 2, 3, 5, 12]))[0])
-        assert VALIDATOR.is_valid(json.loads(plan([job(schedule=text)]))), text
+        assert accepts(plan([job(schedule=text)])), text
 
 
 @pytest.mark.parametrize("text", SCHEMA["$defs"]["job"]["properties"]["schedule"]["examples"])
 def test_its_own_examples_are_right(text, zsched):
     data = plan([job(schedule=text)])
-    assert (VALIDATOR.is_valid(json.loads(data)), run(zsched, data)[0]) == (True, 0)
+    assert (accepts(data), run(zsched, data)[0]) == (True, 0)
 
 
 @pytest.mark.parametrize("verdict, data", [
     pytest.param(verdict, data, id=name) for verdict, name, data in faults.lines_of("schema.tsv")])
 def test_a_faulty_plan_is_marked_or_missed_as_the_table_says(verdict, data, zsched):
-    assert (VALIDATOR.is_valid(json.loads(data)), run(zsched, data)[0]) == (verdict == "missed", 2)
+    assert (accepts(data), run(zsched, data)[0]) == (verdict == "missed", 2)
 
 
 def test_it_rejects_each_fault_that_it_can_express():
     rejected = 0
     for name, data, fault in faults.refused():
-        try:
-            is_valid = VALIDATOR.is_valid(json.loads(data)) if len(data) <= LONGEST else None
-        except (ValueError, RecursionError):
-            continue
+        is_valid = accepts(data) if len(data) <= LONGEST else None
         rejected += is_valid is False
         assert not is_valid or UNTOLD.search(fault) or name in MISSED, name
     assert rejected > 180
@@ -89,11 +93,7 @@ def test_the_program_rejects_whatever_it_rejects(chunk, zsched):
     rejected = []
 
     def holds(data):
-        try:
-            is_valid = VALIDATOR.is_valid(json.loads(data.decode()))
-        except (ValueError, RecursionError):
-            return
-        if not is_valid:
+        if accepts(data) is False:
             rejected.append(data)
             assert run(zsched, data, seconds=5)[0] == 2
     generator.hold(chunk, holds, generator.made(
