@@ -159,19 +159,10 @@ def never_ends(s):
     return s[0] not in ("recurs", "whileInput", "whileOutput")
 
 
-def lower(*limits):
-    """The lowest of the limits that there are."""
-    return min((it for it in limits if it is not None), default=None)
-
-
-def all_limited(*limits):
-    """The highest limit, if all are there."""
-    return None if None in limits else max(limits)
-
-
-def within(x, y):
-    """The greater of two numbers, if the second has 64 bits."""
-    return max(x, y) if y <= MOST else None
+# The lowest of the limits that there are; the highest, if all are there; the greater number, if the second has 64 bits.
+def lower(*limits): return min((it for it in limits if it is not None), default=None)
+def all_limited(*limits): return None if None in limits else max(limits)
+def within(x, y): return max(x, y) if y <= MOST else None
 
 
 def has_time(s, place):

@@ -41,14 +41,9 @@ def hold(chunk, test, strategy):
     hypothesis.seed(chunk)(hypothesis.settings(max_examples=CHUNK)(given))()
 
 
-def seldom(chance, times):
-    """True once in so many times."""
-    return chance.choice(range(times)) == times - 1
-
-
-def whole(chance):
-    """A whole number: mostly a small one, now and then one at a limit."""
-    return chance.choice(NUMBERS)
+# True once in so many times; and a whole number, mostly a small one, now and then one at a limit.
+def seldom(chance, times): return chance.choice(range(times)) == times - 1
+def whole(chance): return chance.choice(NUMBERS)
 
 
 LEAVES = ["forever", "recurs(N)", "recurs(N)", "spaced(N)", "identity", "elapsed", "linear(N)", "fixed(N)",

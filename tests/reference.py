@@ -131,14 +131,9 @@ def read_spelled(tokens):
             spelled = Spelled((infix, a.term, spelled.term), depth, min(a.weight + spelled.weight + 1, 1001))
 
 
-def parts_of(s):
-    """The schedules that a term is made of."""
-    return [part for part in s if isinstance(part, tuple)]
-
-
-def every_part(s):
-    """A term, its parts, and theirs."""
-    return [s] + [inner for part in parts_of(s) for inner in every_part(part)]
+# The schedules that a term is made of; and a term, its parts, and theirs.
+def parts_of(s): return [part for part in s if isinstance(part, tuple)]
+def every_part(s): return [s] + [inner for part in parts_of(s) for inner in every_part(part)]
 
 
 def mapped_kind(function, kind):

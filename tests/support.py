@@ -37,17 +37,14 @@ def plan(jobs=None, horizon='"horizon":1000', more=""):
     return f'{{{horizon}{more},"jobs":[{listed}]}}'.encode()
 
 
-def plans_with_reports():
-    """The plans of the repository that have a report next to them, in the order of their names."""
-    return sorted([*TOP.glob("examples/*.json"), *TOP.glob("tests/plans/*.json")])
+# The plans that have a report next to them, in the order of their names; and that report.
+def plans_with_reports(): return sorted([*TOP.glob("examples/*.json"), *TOP.glob("tests/plans/*.json")])
+def report_beside(path): return path.with_name(path.name + ".stdout").read_bytes()
 
 
 def rows(name):
     """The rows of a table in this folder, each a line of JSON."""
     return [json.loads(line) for line in (TOP / "tests" / name).read_text(encoding="utf-8").splitlines()]
-
-
-def report_beside(path): return path.with_name(path.name + ".stdout").read_bytes()
 
 
 def recut(text, workers, grain):
