@@ -75,3 +75,14 @@ def tried_in(report):
             waits.append(at - int(attempts[-1][1] or at))
         result = result if len(result) <= WIDEST_RESULT else result[:WIDEST_RESULT - 2] + ".."
         yield Tried(how, result, at, len(attempts), sum(waits), max(waits, default=0))
+
+
+def as_object(policy, found, bounds):
+    """The result of a policy and its bounds, as an object of JSON."""
+    limits = bounds and ((None, None) if bounds.is_cut else bounds.limits())
+    return {"policy": policy.text, "schedule": policy.spelled, "how": found.how, "result": found.result,
+            "end_ms": found.at, "attempts": found.attempts, "waited_ms": found.waited, "longest_wait_ms": found.longest,
+            "for_every_input": bounds and {
+                "is_proved": bounds.is_proved, "never_gives_up": bounds.is_endless, "least_attempts": bounds.least,
+                "most_attempts": bounds.most, "longest_wait_ms": limits[0], "waited_ms": limits[1],
+                "end_ms": bounds.call()}}

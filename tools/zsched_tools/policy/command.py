@@ -15,8 +15,8 @@ from zsched_tools.policy.spelling import drawn, spelled
 from zsched_tools.policy.telling import canonical, told_apart
 from zsched_tools.program import LAST_MOMENT
 from zsched_tools.reports import attempts_in, blocks_of
-from zsched_tools.trials import tried_in
-from zsched_tools.trying.command import add_attempts, as_object, bounds_of_all, driver_of, entries_of, of_all, tried
+from zsched_tools.trials import as_object, tried_in
+from zsched_tools.trying.command import add_attempts, bounds_of_all, driver_of, entries_of, of_all, tried
 from zsched_tools.words import duration, listed, plural, shown
 
 TOOL = "zsched-policy"

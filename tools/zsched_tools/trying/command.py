@@ -16,7 +16,7 @@ from zsched_tools.program import LAST_MOMENT, cut_plans, job_text
 from zsched_tools.schedule_rules import any_cause
 from zsched_tools.strip import crowd_of, draw_crowd
 from zsched_tools.reports import joined
-from zsched_tools.trials import MOST_AFTER, entries_text, job_names, plan_of, tried_in
+from zsched_tools.trials import MOST_AFTER, as_object, entries_text, job_names, plan_of, tried_in
 from zsched_tools.trying import layers
 from zsched_tools.words import duration, plural
 
@@ -135,8 +135,8 @@ def _exceeded(given, policy, found):
         yield f"{found.attempts} attempts{more}, over --max-attempts {given.max_attempts}"
 
 
-def _not_proved(given, policy, bounds):
-    """The required bounds of a policy that aren't proved, in words."""
+def _not_proved(given, bounds, policy, *policies):
+    """The required bounds of a policy that aren't proved, in words; of layers those of the whole."""
     longest, total = bounds.limits()
     no_wait = "no limit of each wait" if longest is None else f"no limit after the first {bounds.seen} waits"
     for name, found, known, words, without in [
@@ -150,7 +150,8 @@ def _not_proved(given, policy, bounds):
             shown = without if None in (found, known) else words.format(
                 plural(found, "attempt") if name == "most" else bounding.rounded(found))
         elif limit is not None and not (bounds.is_proved or given.allow_unproved):
-            what = "what holds for draws of a part" if policy.is_argued else "zsched-bounds"
+            is_argued = any(it.is_argued for it in (policy, *policies))
+            what = "what holds for draws of a part" if is_argued else "zsched-bounds"
             shown = f"{what} is unproved (--allow-unproved accepts it)"
         else:
             continue
@@ -218,17 +219,6 @@ def _draw(given, report):
     command.write(given.svg, "".join(f"{line}\n" for line in lines))
 
 
-def as_object(policy, found, bounds):
-    """The result of a policy and its bounds, as an object of JSON."""
-    limits = bounds and ((None, None) if bounds.is_cut else bounds.limits())
-    return {"policy": policy.text, "schedule": policy.spelled, "how": found.how, "result": found.result,
-            "end_ms": found.at, "attempts": found.attempts, "waited_ms": found.waited, "longest_wait_ms": found.longest,
-            "for_every_input": bounds and {
-                "is_proved": bounds.is_proved, "never_gives_up": bounds.is_endless, "least_attempts": bounds.least,
-                "most_attempts": bounds.most, "longest_wait_ms": limits[0], "waited_ms": limits[1],
-                "end_ms": bounds.call()}}
-
-
 def _print_all(given, report, all_bounds):
     """The lines of the policies, the object or the picture; and the bounds that they exceed. Returns the status."""
     _draw(given, report)
@@ -247,7 +237,7 @@ def _print_all(given, report, all_bounds):
             print((policy.text.ljust(widest) if widest else "") + paint(style, ending) + after + rest)
             if bounds is not None:
                 print(" " * widest + f"{bounding.mark(bounds)}{of_all(given, policy)}: {bounds.line()}")
-        unproved = _not_proved(given, policy, bounds) if bounds is not None else []
+        unproved = _not_proved(given, bounds, policy) if bounds is not None else []
         for words in [*_exceeded(given, policy, found), *unproved]:
             sys.stdout.flush()
             print(f"{TOOL}: {policy.text}: {words}", file=sys.stderr)
@@ -338,10 +328,12 @@ def _work_over(given):
     found, whole = made.bounds(path, driver) if path else ([], None)
     if given.svg:
         _draw(given, program.run_plan(made.zsched, made.plan(call)))
-    if given.svg != "-":
+    if given.json:
+        print(json.dumps(layers.as_object(made, call, found, whole)))
+    elif given.svg != "-":
         layers.show(made, call, found, whole, every(given.read))
     tried_whole = replace(call.tried, attempts=call.bottom())
-    lines = [*_exceeded(given, outer, tried_whole), *(_not_proved(given, outer, whole) if whole else [])]
+    lines = [*_exceeded(given, outer, tried_whole), *(_not_proved(given, whole, *given.read) if whole else [])]
     for words in lines:
         print(f"{TOOL}: the whole: {words}", file=sys.stderr)
     return command.NO if lines else 0

@@ -1,10 +1,11 @@
 """Policies over each other: an attempt of one is a whole call of the next one, and those of the last are the calls at
 the bottom."""
 from dataclasses import replace
+from itertools import repeat
 from math import inf
 from typing import NamedTuple
 
-from zsched_tools import bounding, program
+from zsched_tools import bounding, program, trials
 from zsched_tools.command import Refused
 from zsched_tools.program import cut_plans, job_text
 from zsched_tools.reports import attempts_in
@@ -28,6 +29,10 @@ class Call(NamedTuple):
         """The number of calls at the bottom that begin before a moment, and before the end of this call."""
         until = min(until, self.ms)
         return sum(it.bottom(until - begin) for begin, it in self.attempts if begin < until) if self.tried else 1
+
+    def firsts(self):
+        """This call and, of each layer below it, the first one."""
+        return [self, *self.attempts[0][1].firsts()] if self.tried else []
 
 
 class Layers:
@@ -102,25 +107,35 @@ class Layers:
             bound = bounding.of_policies(path, [self.given.read[level]], [driver])[0]
             most = most * bound.most if None not in (most, bound.most) else None
             found.insert(0, (driver, bound))
-        return found, replace(found[0][1], most=most)
+        return found, replace(found[0][1], most=most, is_proved=all(it.is_proved for _, it in found))
 
 
 def show(layers, call, found, whole, every):
     """Prints a line for each layer and one for the whole, each with the bounds and what they are for."""
-    inner, widest = call, max(map(len, [*layers.names, "the whole"])) + 2
-    mark = bounding.mark(whole) if whole else ""
+    widest = max(map(len, [*layers.names, "the whole"])) + 2
 
-    def line(name, what, scope="", proved=""):
-        print(f"{name:<{widest}}{what}" + (f"\n{'':{widest}}{mark}{every}{scope}: {proved}" if found else ""))
-    for level, name in enumerate(layers.names):
+    def line(name, what, bound, scope="", proved=""):
+        known = f"\n{'':{widest}}{bounding.mark(bound)}{every}{scope}: {proved}" if bound else ""
+        print(f"{name:<{widest}}{what}{known}")
+    for level, (inner, name) in enumerate(zip(call.firsts(), layers.names)):
         below, driver, bound = layers.names[level + 1:level + 2], *(found[level] if found else (None, None))
         scope = driver and driver.words(f"calls of {below[0]}" if below else "attempts", bool(below))
-        line(name, inner.tried.line(), scope, bound and bound.line())
-        inner = inner.attempts[0][1]
+        line(name, inner.tried.line(), bound, scope, bound and bound.line())
     most = whole and ("no limit of" if whole.most is None else f"at most {whole.most}")
     line("the whole", f"{call.tried.how} {call.tried.result}".strip() + f" after {plural(call.bottom(), 'call')}"
-         f" at the bottom, {duration(call.ms)}", found and found[-1][0].words("calls at the bottom"),
+         f" at the bottom, {duration(call.ms)}", whole, found and found[-1][0].words("calls at the bottom"),
          whole and f"{most} calls at the bottom{whole.end()}")
+
+
+def as_object(layers, call, found, whole):
+    """What `show` prints, as an object of JSON."""
+    each = []
+    for policy, inner, (driver, bound) in zip(layers.given.read, call.firsts(), found or repeat((None, None))):
+        limits = driver and {"attempt_ms": driver.attempt, "late_ms": driver.late, "asked_ms": driver.asked}
+        each.append(trials.as_object(policy, inner.tried, bound) | {"holds_for": limits})
+    return {"layers": each, "whole": {
+        "how": call.tried.how, "result": call.tried.result, "end_ms": call.ms, "calls": call.bottom(),
+        "for_every_input": whole and {"is_proved": whole.is_proved, "most_calls": whole.most, "end_ms": whole.call()}}}
 
 
 def refuse_options(given):
@@ -129,7 +144,5 @@ def refuse_options(given):
         if getattr(given, name) is not None:
             raise Refused(f"--{name.replace('_', '-')} is for a policy alone; --require-most and --require-end, "
                           "--max-attempts and --max-total hold for the whole of layers")
-    if given.json:
-        raise Refused("--json is for policies without --over")
     if given.mode != "retry" or len(given.policies) > 1:
         raise Refused("--over takes one POLICY, which retries")
