@@ -1,4 +1,5 @@
-"""A log of calls, read as attempts with their moments: CSV, JSON lines, or the JSON of OpenTelemetry's spans.
+"""A log of calls, read as attempts with their moments: CSV, JSON lines, or the JSON of OpenTelemetry's or Jaeger's
+spans.
 
 Moments and lengths are whole nanoseconds here. A log may have millions of rows: of each only a few numbers stay in
 memory. A cell that isn't understood, or has no request, is an error with its row and column."""
@@ -297,9 +298,6 @@ def _json_rows(path, data):
         whole = next(documents())[1]
         if "jobs" in whole or "policies" in whole:
             raise Refused(f"{path}:1: this is a plan or a scenario, and no log of calls")
-        if any(isinstance(trace, dict) and "spans" in trace for trace in _items(whole, "data")):
-            raise Refused(f"{path}:1: these are spans as Jaeger shows them; its /api/v3/traces/ID has them as "
-                          "OpenTelemetry's JSON (OTLP)")
         items, word = functools.partial(enumerate, whole if isinstance(whole, list) else [whole], 1), "record "
     if spans or not is_lines:
         head = dict.fromkeys(itertools.chain.from_iterable(_flat(path, word, *it) for it in items()), "")
@@ -330,14 +328,9 @@ def _items(value, *names):
 
 
 def spans_in(documents):
-    """The attempts in documents of OpenTelemetry, as objects with a name for each column: the spans of the kind client,
-    else those without spans below."""
-    # Jaeger's /api/v3 has them under a key "result".
-    spans = [span for document in documents
-             for whole in (document, isinstance(document, dict) and document.get("result"))
-             for resource in _items(whole, "resourceSpans", "resource_spans")
-             for scope in _items(resource, "scopeSpans", "scope_spans", "instrumentationLibrarySpans")
-             for span in _items(scope, "spans") if isinstance(span, dict)]
+    """The attempts in documents of OpenTelemetry or Jaeger, as objects with a name for each column: the spans of the
+    kind client, else those without spans below."""
+    spans = [span for document in documents for span in _spans_of(document)]
     parents = {span.get("parentSpanId") for span in spans}
     of_clients = [span for span in spans if span.get("kind") in _CLIENT]
     attempts = of_clients or [span for span in spans if span.get("spanId") not in parents - {None, ""}]
@@ -356,6 +349,38 @@ def spans_in(documents):
              "end_time_unix_nano": span.get("endTimeUnixNano", ""), "status": _span_status(span)} for span in attempts]
 
 
+def _spans_of(document):
+    """The spans of a document, as OpenTelemetry's. Jaeger has them under a key "result" or, in its older form, "data".
+    """
+    for whole in (document, isinstance(document, dict) and document.get("result")):
+        for resource in _items(whole, "resourceSpans", "resource_spans"):
+            for scope in _items(resource, "scopeSpans", "scope_spans", "instrumentationLibrarySpans"):
+                yield from filter(_is_object, _items(scope, "spans"))
+    for trace in filter(_is_object, _items(document, "data")):
+        yield from (_of_jaeger({"traceID": trace.get("traceID")} | span)
+                    for span in filter(_is_object, _items(trace, "spans")))
+
+
+def _is_object(value):
+    return isinstance(value, dict)
+
+
+def _of_jaeger(span):
+    """A span of Jaeger's older form, whose times are microseconds. Its parent is the first reference CHILD_OF within
+    its trace, else the first other one."""
+    tags = {it.get("key"): it.get("value") for it in filter(_is_object, _items(span, "tags"))}
+    above = [it for it in filter(_is_object, _items(span, "references")) if it.get("traceID") == span["traceID"]]
+    parent = min(above, key=lambda it: it.get("refType") != "CHILD_OF", default={"spanID": span.get("parentSpanID")})
+    times = [str(span.get(name)) for name in ["startTime", "duration"]]
+    begin, end = (f"{sum(map(int, parts))}000" if all(re.fullmatch("[0-9]{1,16}", it) for it in parts) else ""
+                  for parts in [times[:1], times])
+    is_error = tags.get("error") in (True, "true") or tags.get("otel.status_code") == "ERROR"
+    return {"traceId": span["traceID"], "spanId": span.get("spanID"), "parentSpanId": parent.get("spanID"),
+            "name": span.get("operationName", ""), "kind": "3" if tags.get("span.kind") == "client" else "",
+            "startTimeUnixNano": begin, "endTimeUnixNano": end, "status": {"code": "2" if is_error else ""},
+            "attributes": [{"key": key, "value": {"text": value}} for key, value in tags.items()]}
+
+
 def _parent(span):
     """The span whose attempt this is: its parent, without one its trace."""
     return str(span.get("parentSpanId") or span.get("traceId") or "")
@@ -365,7 +390,7 @@ def _span_status(span):
     """The status as a text: that of HTTP or gRPC, and whether the span has an error."""
     given = span.get("status")
     is_error = isinstance(given, dict) and given.get("code") in _ERROR
-    values = {item.get("key"): item.get("value") for item in _items(span, "attributes") if isinstance(item, dict)}
+    values = {item.get("key"): item.get("value") for item in filter(_is_object, _items(span, "attributes"))}
     for name in _SPAN_CODES:
         value = values.get(name)
         if isinstance(value, dict) and value:

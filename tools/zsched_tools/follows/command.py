@@ -28,9 +28,9 @@ late     .. after it, by more than --tolerance; of random waits after the greate
 extra    the policy gave up before it, or the request had ended
 missing  the attempt never comes, and the log goes on after its moment
 
-LOG is CSV, JSON lines, or the JSON of OpenTelemetry's spans; - is standard input. It has an attempt a row, in any
-order: its request, its status, and two of its begin, its end and its length. Columns are found by their names, as
-request_id, timestamp, duration_ms, status; standard error says how each is read. Moments are RFC 3339 or numbers:
+LOG is CSV, JSON lines, or the JSON of spans of OpenTelemetry or Jaeger; - is standard input. It has an attempt a row,
+in any order: its request, its status, and two of its begin, its end and its length. Columns are found by their names,
+as request_id, timestamp, duration_ms, status; standard error says how each is read. Moments are RFC 3339 or numbers:
 seconds, milliseconds, microseconds or nanoseconds since 1970, known by their size. Without an end and a length an
 attempt takes no time. A status of 400 or more is an error, and so are 0 (no response), error and timeout. Attempts of
 spans are those of one parent: spans of the kind client, else those without spans below them. docs/FORMATS.md has the

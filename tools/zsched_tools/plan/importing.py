@@ -39,8 +39,8 @@ HOUR = 3_600_000
 _HORIZON = re.compile(r'("horizon":)([0-9]{1,15})(?![0-9.eE])')
 ABOUT = """Converts FILE to a plan, and writes it to standard output.
 
-A log (.csv, .tsv, .jsonl, .ndjson; .json for a list or OpenTelemetry's spans) has an attempt a row,
-in any order: its request, its begin, its length or end, and its status. Columns are found by their
+A log (.csv, .tsv, .jsonl, .ndjson; .json for a list, or spans of OpenTelemetry or Jaeger) has an
+attempt a row, in any order: its request, its begin, its length or end, and its status. Columns are found by their
 names, as request_id, timestamp, duration_ms, status; standard error says how each is read, and
 docs/FORMATS.md has all rules. Without a length an attempt lasts until the next of its request.
 
