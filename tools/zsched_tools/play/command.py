@@ -1,6 +1,13 @@
 """Serves a page on this machine. You type schedules and what their attempts do, and see the picture and the report, or
-the fault with its place. It is docs/play.html, with reports by zsched. It loads and sends nothing elsewhere."""
+the fault with its place. It is docs/play.html, with reports by zsched. It loads and sends nothing elsewhere.
+
+  zsched-play --port 0 --json
+  zsched-play --html play.html --title 'Policies of checkout'
+
+The page of --html needs no server and no program: its reports are by its own evaluator. The page draws the pictures, so
+there is no --svg: zsched-try and zsched-report have one."""
 import bisect
+import html
 import http.server
 import itertools
 import json
@@ -35,9 +42,10 @@ class Late(Exception):
     """The program wrote no report in time, and was killed."""
 
 
-def page():
-    """docs/play.html with zsched in place of the page's evaluator."""
-    return hints.page().replace('data-engine="page"', 'data-engine="program"', 1)
+def page(title="", engine="program"):
+    """docs/play.html with a title, and with zsched in place of the page's evaluator."""
+    found = hints.page().replace('data-engine="page"', f'data-engine="{engine}"', 1)
+    return re.sub("(?<=<title>).*?(?=</title>)", lambda it: html.escape(title) or it[0], found, count=1)
 
 
 def run(zsched, plan, seconds):
@@ -120,10 +128,9 @@ class Server(http.server.ThreadingHTTPServer):
     """Serves the page on this machine only. The server waits for its runs before it ends."""
     daemon_threads = False
 
-    def __init__(self, port, zsched, seconds, bounds=None):
+    def __init__(self, port, zsched, seconds, bounds=None, title=""):
         super().__init__((ADDRESS, port), Handler)
-        self.zsched, self.bounds = zsched, bounds
-        self.seconds = seconds
+        self.zsched, self.bounds, self.seconds, self.title = zsched, bounds, seconds, title
         names = [ADDRESS, "localhost"]
         self.hosts = [f"{name}:{self.server_port}" for name in names] + (names if self.server_port == 80 else [])
 
@@ -174,7 +181,7 @@ class Handler(http.server.BaseHTTPRequestHandler):
         elif self.command == "POST":
             self.give_answer()
         else:
-            self.give(200, "text/html; charset=utf-8", page().encode())
+            self.give(200, "text/html; charset=utf-8", page(self.server.title).encode())
 
     do_HEAD = do_POST = do_PUT = do_DELETE = do_PATCH = do_OPTIONS = do_TRACE = do_CONNECT = do_GET
 
@@ -216,16 +223,19 @@ def stop(number, frame):
 
 
 def serve(given):
+    if given.html:
+        return command.write(given.html, page(given.title, "page"))
     zsched, bounds = program.find(given.zsched), program.find_bounds(given.bounds)
     try:
-        server = Server(given.port, zsched, SECONDS, bounds)
+        server = Server(given.port, zsched, SECONDS, bounds, given.title)
     except OSError as fault:
         raise command.Refused(f"port {given.port}: {fault.strerror}") from fault
     with server:
         try:
             signal.signal(signal.SIGTERM, stop)
-            paint = command.Paint(given.color, sys.stdout)
-            print(f"zsched-play: {paint('strong', server.url())}", flush=True)
+            paint, found = command.Paint(given.color, sys.stdout), {"zsched": zsched, "bounds": bounds}
+            print(json.dumps({"url": server.url()} | found) if given.json else
+                  f"zsched-play: {paint('strong', server.url())}", flush=True)
             server.serve_forever()
         except KeyboardInterrupt:
             pass
@@ -233,9 +243,13 @@ def serve(given):
 
 def arguments():
     words = command.parser("zsched-play", __doc__, "Ctrl-C ends it, with status 0. Status 2: a wrong argument, no "
-                           "program, or a port that isn't free.")
+                           "program, or a port that isn't free. Status 3: writing fails.")
     port = command.number(0, 65535, "{} is not a port: 0 to 65535")
     words.add_argument("--port", type=port, default=PORT, help=f"the port ({PORT}); 0 picks a free one")
+    words.add_argument("--title", default="", help="the title of the page, in place of zsched's")
+    form = words.add_mutually_exclusive_group()
+    form.add_argument("--json", action="store_true", help="print the address and the programs as one object")
+    form.add_argument("--html", metavar="FILE", help="write the page, and serve nothing; - is standard output")
     command.add_programs(words, True)
     return command.complete(words)
 
