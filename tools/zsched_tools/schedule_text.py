@@ -66,7 +66,7 @@ def _no_term(spot):
         return _ended(spot)
     expected = expectation(spot.before)
     return (slip(spot, expected) or _after_number(spot) or _in_scala(spot, expected) or _foreign(spot)
-            or _EXPECTED[expected](spot))
+            or _odd_letter(spot) or _EXPECTED[expected](spot))
 
 
 def expectation(before):
@@ -128,8 +128,7 @@ def _after_number(spot):
     unit = re.match(r"[ .]{0,3}([A-Za-zµ]+)", spot.rest)
     if unit and (unit[1] in UNITS or unit[1].lower() in UNITS):
         return spot.cause(unit.end(), "no_unit", in_milliseconds(count + unit[1]))
-    fraction = re.match(r"\.[0-9]+", spot.rest)
-    if fraction:
+    if fraction := re.match(r"\.[0-9]+", spot.rest):
         return _fraction(spot, count + fraction[0], fraction.end())
     digits = re.match(r"[_' ]?[0-9][0-9_']*", spot.rest)
     return digits and spot.cause(digits.end(), "only_digits", "write",
@@ -171,7 +170,7 @@ def _foreign(spot):
     word = re.match(r"[A-Za-z]+", rest)
     if word and word[0] not in _WORDS and zio(word[0]) and not (word[0] == "as" and spot.last() == "("):
         return spot.cause(len(word[0]), "unknown", zio(word[0]), word=word[0])
-    return _odd_letter(spot)
+    return None
 
 
 def _odd_letter(spot):
@@ -219,7 +218,10 @@ def _no_more(spot):
     if token in OPERATORS:
         return _second_operator(spot, token, opened, operator)
     if token == ")":
-        return _needless_close(spot, opened)
+        # A parenthesis closes nothing, or a pair of them has no operator.
+        inside = spot.text[opened.start() + 1:spot.at].strip() if opened else None
+        return spot.cause(1, "closes_nothing", "remove") if not opened else spot.cause(
+            1, "needless", "write" if len(inside) < 60 else "remove_them", text=inside)
     for tokens, texts in [(METHODS, ["point_before", "write_point"]), (LEAVES + ["("], ["operator_before", "joined"]),
                           (",", ["comma", "joined"]), (COMPARISONS, ["in_method", "write_while"]),
                           (["+", "*"], ["in_map", "write_map"])]:
@@ -242,22 +244,11 @@ def _second_operator(spot, token, opened, operator):
     return spot.cause(None, "second_operator", help, operator=operator, text=left)
 
 
-def _needless_close(spot, opened):
-    """A parenthesis closes nothing, or a pair of them has no operator."""
-    if not opened:
-        return spot.cause(1, "closes_nothing", "remove")
-    inside = spot.text[opened.start() + 1:spot.at].strip()
-    return spot.cause(1, "needless", "write" if len(inside) < 60 else "remove_them", text=inside)
-
-
 def _no_method(spot):
     token = spot.token()
-    if token == "forever":
-        return spot.cause(None, "no_method", "continues")
-    if token in LEAVES:
-        return spot.cause(None, "no_method", "and_or", text=token if token in BARE_LEAVES else f"{token}(N)")
-    if token in OPERATORS:
-        return spot.cause(None, "no_method", "write_operator")
+    if token in LEAVES + OPERATORS:
+        help = "continues" if token == "forever" else "and_or" if token in LEAVES else "write_operator"
+        return spot.cause(None, "no_method", help, text=token if token in BARE_LEAVES else f"{token}(N)")
     return _misspelled(spot, METHODS) or spot.cause(None, "method_missing", "are_methods")
 
 
@@ -296,19 +287,37 @@ def _no_close(spot):
 
 def slip(spot, expected):
     """The Cause of a slip at a Spot, or None. `expected` is what has to follow there."""
-    for look in (_template, _cron, _exponent, _duration, _named, _third_number, _deep_pick, _limit_of_time, _odd_mark):
-        found = look(spot, expected)
-        if found:
-            return found
-    return None
+    return next(filter(None, _slips(spot, expected)), None)
 
 
-def _template(spot, _):
-    found = _TEMPLATE.match(spot.rest)
-    return found and spot.cause(found.end(), "template", "fill")
+def _slips(spot, expected):
+    """The causes of what other tools and languages write instead of a schedule, each or None."""
+    rest, last = spot.rest, spot.last()
+    if found := _TEMPLATE.match(rest):
+        yield spot.cause(found.end(), "template", "fill")
+    yield _cron(spot)
+    if last.isdigit() and (found := _EXPONENT.match(rest)):
+        value = Fraction(last[:19] + found[1]) * 10**int(found[2])
+        is_whole = value.denominator == 1 and value < 2**64
+        yield spot.cause(found.end(), "no_exponent", "write" if is_whole else "all_digits", text=value)
+    if expected == "number" and (found := _ISO.match(rest)) and len(found[0]) >= 3:
+        yield spot.cause(found.end(), "no_unit", in_milliseconds(found[0]))
+    if expected == "number" and (found := _NAMED.match(rest)):
+        yield _named(spot, found)
+    if expected == "close" and rest.startswith(",") and spot.last(5) == "exponential":
+        yield spot.cause(1, "two_numbers", "third", first=spot.last(3))
+    if last in ("_1", "_2") and (method := spot.last(3)) in METHODS and (found := re.match(r"\._([12])", rest)):
+        yield spot.cause(found.end(), "one_level", "write", text=f".map({last}).{method}(_{found[1]}" + (
+            ")" if method == "map" else " .."))
+    yield _limit_of_time(spot)
+    plain = unicodedata.normalize("NFKC", rest[0])
+    if rest[0] == ";":
+        yield spot.cause(1, "semicolon", "joined")
+    if not rest[0].isascii() and len(plain) == 1 and "!" <= plain <= "~":
+        yield spot.cause(1, "no_ascii", "write", word=rest[0], text=plain)
 
 
-def _cron(spot, _):
+def _cron(spot):
     text = spot.text.strip()
     if not (_CRON.fullmatch(spot.text) or _CRON_NAME.match(text)):
         return None
@@ -317,27 +326,8 @@ def _cron(spot, _):
     return spot.cause(len(spot.rest.rstrip()), "cron", "fixed" if period else "fixed_n", text=period)
 
 
-def _exponent(spot, _):
-    found = _EXPONENT.match(spot.rest)
-    if not found or not spot.last().isdigit():
-        return None
-    value = Fraction(spot.last()[:19] + found[1]) * 10**int(found[2])
-    is_whole = value.denominator == 1 and value < 2**64
-    return spot.cause(found.end(), "no_exponent", "write" if is_whole else "all_digits", text=value)
-
-
-def _duration(spot, expected):
-    """A duration of ISO 8601 instead of a number."""
-    found = _ISO.match(spot.rest)
-    if expected != "number" or not found or len(found[0]) < 3:
-        return None
-    return spot.cause(found.end(), "no_unit", in_milliseconds(found[0]))
-
-
-def _named(spot, expected):
-    found = _NAMED.match(spot.rest)
-    if expected != "number" or not found:
-        return None
+def _named(spot, found):
+    """The cause of a number with a name."""
     leaf, given = (spot.last(2), []) if spot.last() == "(" else (spot.last(4), [spot.last(2)])
     if leaf not in NUMBERED_LEAVES:
         return spot.cause(found.end(), "no_name", "only", text=found[2])
@@ -348,20 +338,7 @@ def _named(spot, expected):
     return spot.cause(found.end(), "no_name", "write", text=f"{leaf}({', '.join(numbers[:most])})")
 
 
-def _third_number(spot, expected):
-    is_third = expected == "close" and spot.rest.startswith(",") and spot.last(5) == "exponential"
-    return spot.cause(1, "two_numbers", "third", first=spot.last(3)) if is_third else None
-
-
-def _deep_pick(spot, _):
-    found, method = re.match(r"\._([12])", spot.rest), spot.last(3)
-    if not found or spot.last() not in ("_1", "_2") or method not in METHODS:
-        return None
-    return spot.cause(found.end(), "one_level", "write", text=f".map({spot.last()}).{method}(_{found[1]}" + (
-        ")" if method == "map" else " .."))
-
-
-def _limit_of_time(spot, _):
+def _limit_of_time(spot):
     found = re.match(r"upTo *\(([^()]*)\)", spot.rest)
     before = spot.text[:spot.at].rstrip(" .")
     if not found or spot.last() != "." or before.count("(") != before.count(")") or len(before) > _LONGEST:
@@ -370,17 +347,6 @@ def _limit_of_time(spot, _):
     if not time.isdigit():
         time = re.sub(r"\D*([0-9]+).*", r"\1", in_milliseconds(time))
     return spot.cause(len("upTo"), "up_to", "elapsed", first=before, text=time) if time.isdigit() else None
-
-
-def _odd_mark(spot, _):
-    """A mark that other languages use, as a semicolon."""
-    letter = spot.rest[0]
-    plain = unicodedata.normalize("NFKC", letter)
-    if letter == ";":
-        return spot.cause(1, "semicolon", "joined")
-    if not letter.isascii() and len(plain) == 1 and "!" <= plain <= "~":
-        return spot.cause(1, "no_ascii", "write", word=letter, text=plain)
-    return None
 
 
 _EXPECTED = {
