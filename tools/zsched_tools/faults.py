@@ -1,6 +1,7 @@
 """The place of the fault that the program reports, and what is wrong there, by the rules of docs/FORMATS.md."""
 import functools
 import re
+from typing import NamedTuple
 
 from zsched_tools import json_reading
 from zsched_tools.place import Cause
@@ -12,14 +13,12 @@ _OF_DOCUMENT = re.compile(r"plan: (?P<cause>wrong shape|unknown key|out of range
 _OF_JOB = re.compile(r"job (?P<job>\d+): (?P<cause>.+)")
 
 
-class Explained:
+class Explained(NamedTuple):
     """A fault's Cause, in the text of its plan. The number and the name of its job are None if it is in no job."""
-
-    def __init__(self, text, cause, job=None, name=None):
-        self.text = text
-        self.cause = cause
-        self.job = job
-        self.name = name
+    text: str
+    cause: Cause
+    job: int | None = None
+    name: str | None = None
 
 
 class Plan:
@@ -70,11 +69,9 @@ def _in_document(plan, text, fault):
 
 
 def _of_job(jobs, job, cause):
-    if cause.startswith("schedule: "):
-        return schedule_fault(job, cause.removeprefix("schedule: "))
-    if cause.startswith("script: "):
-        return script_fault(job, cause.removeprefix("script: "))
-    return JOB_FAULTS[cause](jobs, job)
+    kind, _, rest = cause.partition(": ")
+    of_part = {"schedule": schedule_fault, "script": script_fault}.get(kind)
+    return of_part(job, rest) if of_part else JOB_FAULTS[cause](jobs, job)
 
 
 def _unknown(at):

@@ -6,7 +6,7 @@ import re
 
 from zsched_tools.durations import UNITS, in_milliseconds
 from zsched_tools.place import Cause, FaultAt, choose, line_of
-from zsched_tools.positions import COLON, SPACE, W, maybe, run_of
+from zsched_tools.positions import COLON, W, Document, maybe, run_of
 from zsched_tools.words import shown
 
 MAX_DEPTH = 127
@@ -60,44 +60,32 @@ _OTHER_TEXTS = [
 
 def fault_of(text):
     """The Cause if a text is not a JSON document, else None."""
+    reading = Reading(text)
+    begin = reading.skip(0)
+    if text.startswith("\ufeff"):
+        return Cause(0, 1, "the plan begins with a byte order mark", "save it as UTF-8 without one")
+    if begin == len(text):
+        return Cause(0, 0, "the plan is empty", f"a plan begins as {SKETCH}")
     try:
-        Reading(text).read()
+        rest = reading.skip(reading.end_of(begin))
     except FaultAt as fault:
         return fault.cause
-    return None
+    return more_text(text, rest) if rest < len(text) else None
 
 
-class Reading:
+class Reading(Document):
     """One pass over a text, with the places of the lists and objects that are open."""
 
     def __init__(self, text):
-        self.text = text
+        super().__init__(text)
         self.open = []
 
-    def read(self):
-        """Reads the value of the whole text; raises FaultAt."""
-        begin = self.skip(0)
-        if self.text.startswith("\ufeff"):
-            raise FaultAt(Cause(0, 1, "the plan begins with a byte order mark", "save it as UTF-8 without one"))
-        if begin == len(self.text):
-            raise FaultAt(Cause(0, 0, "the plan is empty", f"a plan begins as {SKETCH}"))
-        rest = self.skip(self.end_of(begin))
-        if rest < len(self.text):
-            raise FaultAt(more_text(self.text, rest))
-
-    def skip(self, at):
-        """The place after the white space."""
-        return SPACE.match(self.text, at).end()
-
     def end_of(self, at):
-        """The end of the value that begins here."""
+        """The end of the value that begins here. A number may be too large for a float."""
         if self.text[at:at + 1] in ("{", "["):
             return self.end_of_container(at)
-        scalar = _ONE_SCALAR.match(self.text, at)
-        return scalar.end() if scalar else self.end_of_number(at)
-
-    def end_of_number(self, at):
-        """The end of a number that may be too large for a float."""
+        if scalar := _ONE_SCALAR.match(self.text, at):
+            return scalar.end()
         number = _NUMBER.match(self.text, at)
         if not number:
             raise FaultAt(no_value(self, at))
@@ -184,9 +172,13 @@ def no_value(reading, at):
     if mark == '"':
         return _bad_string(text, at)
     if not reading.open:
-        return _comment(text, at) or _no_beginning(text, at)
+        is_odd = text[at].isspace() or not text[at].isprintable()
+        return _comment(text, at) or choose(
+            at, (re.compile(r"\w+[ \t]*:").match(text, at), 1, "this looks like YAML, and a plan is JSON",
+                 f"{FROM}write {SKETCH}"), (not is_odd, 1, "no plan begins like this", f"a plan begins as {SKETCH}"),
+        ) or _odd_letter(text, at)
     if mark in "]},:;=":
-        return _missing_value(text, at, mark)
+        return _missing(reading, at, mark, "value")
     if mark in "+-." or mark.isdigit():
         return _bad_number(text, at)
     if mark in _QUOTES:
@@ -195,30 +187,27 @@ def no_value(reading, at):
     return _comment(text, at) or (_bare_word(text, at, word[0]) if word else _odd_letter(text, at))
 
 
-def _no_beginning(text, at):
-    if re.compile(r"\w+[ \t]*:").match(text, at):
-        return Cause(at, 1, "this looks like YAML, and a plan is JSON", f"{FROM}write {SKETCH}")
-    if text[at].isspace() or not text[at].isprintable():
-        return _odd_letter(text, at)
-    return Cause(at, 1, "no plan begins like this", f"a plan begins as {SKETCH}")
-
-
 def _early_end(reading, at):
-    if not reading.open:
-        return Cause(at, 0, "the plan ends too early")
-    mark, line = reading.text[reading.open[-1]], line_of(reading.text, reading.open[-1])
-    help = f"{_CLOSING[mark]} is missing: the {mark} of line {line} is still open"
+    help = ""
+    if reading.open:
+        mark, line = reading.text[reading.open[-1]], line_of(reading.text, reading.open[-1])
+        help = f"{_CLOSING[mark]} is missing: the {mark} of line {line} is still open"
     return Cause(at, 0, "the plan ends too early", help)
 
 
-def _missing_value(text, at, mark):
+def _missing(reading, at, mark, part):
+    """A value or a key is missing before a mark."""
+    text, is_key = reading.text, part == "key"
     before = len(text[:at].rstrip(_SPACE)) - 1
     last = text[before]
-    if last == "," and mark in "]}":
+    if last == "," and mark in ("}" if is_key else "]}"):
         return Cause(before, 1, f"a comma before {mark}", "remove it: JSON has commas only between parts")
-    return choose(at, (last == "," and mark == ",", 1, "a second comma", "remove it"),
-                  (last == ":", 1, f"a value is missing before this {mark}"),
-                  (last == "[" and mark == ",", 1, "a comma before the first item", "remove it"),
+    return choose(at, (last == mark == ",", 1, "a second comma", "remove it"),
+                  (mark == "," and is_key, 1, "a comma before the first key", "remove it"),
+                  (mark == "," and last == "[", 1, "a comma before the first item", "remove it"),
+                  (is_key and mark == "]", 1, "this is ], but a key or a } is expected",
+                   f"the {{ of line {line_of(text, reading.open[-1])} is still open"),
+                  (is_key or last == ":", 1, f"a {part} is missing before this {mark}"),
                   (True, 1, f"no value begins with {mark}"))
 
 
@@ -267,7 +256,7 @@ def no_key(reading, at):
     if mark == '"':
         return _bad_string(text, at)
     if mark in "]},:":
-        return _missing_key(reading, at, mark)
+        return _missing(reading, at, mark, "key")
     digits, word = re.compile(r"[0-9]+").match(text, at), _WORD.match(text, at)
     before = re.compile(r"[0-9]+,[ ]?$").search(text, max(0, at - 40), at)
     return choose(at, (mark in _QUOTES, 1, "these aren't JSON's quotes", 'write "'),
@@ -276,17 +265,6 @@ def no_key(reading, at):
                   (word, word and len(word[0]), "a key without quotes", word and f'write "{shown(word[0])}"'),
                   ) or _comment(text, at) or Cause(at, 1, f"this is {shown(mark)}, but a key in quotes is expected",
                                                    'the parts of an object are written "key": value')
-
-
-def _missing_key(reading, at, mark):
-    text, before = reading.text, len(reading.text[:at].rstrip(_SPACE)) - 1
-    if text[before] == "," and mark == "}":
-        return Cause(before, 1, "a comma before }", "remove it: JSON has commas only between parts")
-    return choose(at, (mark == "," and text[before] == ",", 1, "a second comma", "remove it"),
-                  (mark == ",", 1, "a comma before the first key", "remove it"),
-                  (mark == "]", 1, "this is ], but a key or a } is expected",
-                   f"the {{ of line {line_of(text, reading.open[-1])} is still open"),
-                  (True, 1, f"a key is missing before this {mark}"))
 
 
 def no_colon(reading, at, end):

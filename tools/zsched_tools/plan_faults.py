@@ -75,13 +75,10 @@ def misnamed(node, key, where, known):
     return None
 
 
-def unknown_key(node, where, known):
-    """The cause of the first unknown key of an object, or None."""
-    for name, _ in node.members():
-        said = name.string()
-        if said not in known:
-            return over(name, f'{where} has no key "{shown(said)}"', _key_help(said, where, known))
-    return None
+def unknown_keys(node, where, known):
+    """The causes of the unknown keys of an object."""
+    return (over(name, f'{where} has no key "{shown(said)}"', _key_help(said, where, known))
+            for name, _ in node.members() if (said := name.string()) not in known)
 
 
 def _key_help(said, where, known):
@@ -152,23 +149,18 @@ def out_of_range(node, key, least, most, help=""):
 
 def first(causes):
     """The first cause of these, or None."""
-    return next((cause for cause in causes if cause), None)
+    return next(filter(None, causes), None)
 
 
 def plan_shape(plan):
-    """An object with `jobs` and one of `horizon` and `ticks`, each of the right kind."""
+    """The causes if a plan isn't an object with `jobs` and one of `horizon` and `ticks`, each of the right kind."""
     if plan.kind != "object":
-        help = f"write {_FRAME}, with the jobs in its list" if plan.kind == "list" else f"write {_FRAME}"
-        return not_of_kind(plan, "object", "the plan", help)
-    keys = {name.string() for name, _ in plan.members()}
-    if len(keys & set(JOB_KEYS)) > 1 and "jobs" not in keys:
-        return Cause(plan.at, 1, "this is one job, and no plan", f"put it into the list of {_FRAME}")
-    return first(_plan_shape_causes(plan))
-
-
-def _plan_shape_causes(plan):
-    """The causes of a wrong shape, each or None."""
+        yield not_of_kind(plan, "object", "the plan", f"write {_FRAME}" + (
+            ", with the jobs in its list" if plan.kind == "list" else ""))
+        return
     jobs, horizon, ticks = plan.get("jobs"), plan.get("horizon"), plan.get("ticks")
+    if not jobs and len({name.string() for name, _ in plan.members()} & set(JOB_KEYS)) > 1:
+        yield Cause(plan.at, 1, "this is one job, and no plan", f"put it into the list of {_FRAME}")
     if not horizon and not ticks:
         yield missing(plan, "horizon", "the plan", DOCUMENT_KEYS)
     if not jobs:
@@ -180,12 +172,11 @@ def _plan_shape_causes(plan):
         yield value and not_whole(value, key)
     if ticks:
         yield not_of_kind(ticks, "list", '"ticks"', "write [0, 10, 20]")
-        if ticks.kind == "list":
-            yield first(not_whole(tick, "ticks") for tick in ticks.items(_WHOLES))
+        yield from (not_whole(tick, "ticks") for tick in ticks.items(_WHOLES))
     yield jobs and not_of_kind(jobs, "list", '"jobs"', 'write [ {"name": .., ..}, .. ]: each job has its name inside')
 
 
-def _range_causes(plan):
+def plan_ranges(plan):
     """The causes of a number out of range, each or None."""
     workers, grain, horizon, ticks = (plan.get(key) for key in ("workers", "grain", "horizon", "ticks"))
     yield workers and out_of_range(workers, "workers", 1, 64, "the number of workers never changes a report")
@@ -205,26 +196,18 @@ def _tick_cause(ticks):
     moments = list(map(int, parts))
     falls = list(map(operator.ge, moments, moments[1:]))
     if True in falls:
-        number = falls.index(True) + 1
+        number, help = falls.index(True) + 1, "write the ticks in their order, each once"
         what = f"this tick is not later than the one before it, {moments[number - 1]}"
-        return _at_tick(ticks, parts, number, what, "write the ticks in their order, each once")
-    if len(moments) > MAX_TICKS:
-        return _at_tick(ticks, parts, MAX_TICKS, f"this is one tick more than {MAX_TICKS}",
-                        "a horizon has a tick at each millisecond")
-    if moments[-1] > LAST_MOMENT:
+    elif len(moments) > MAX_TICKS:
+        number, help = MAX_TICKS, "a horizon has a tick at each millisecond"
+        what = f"this is one tick more than {MAX_TICKS}"
+    elif moments[-1] > LAST_MOMENT:
+        number, help = len(parts) - 1, "moments are milliseconds from the beginning of the plan"
         what = f"the last tick is {moments[-1]}, and may be at most {LAST_MOMENT}"
-        return _at_tick(ticks, parts, len(parts) - 1, what, "moments are milliseconds from the beginning of the plan")
-    return None
-
-
-def _at_tick(ticks, parts, number, what, help):
-    begin = ticks.at + 1 + sum(map(len, parts[:number])) + number
-    part = parts[number]
+    else:
+        return None
+    begin, part = ticks.at + 1 + sum(map(len, parts[:number])) + number, parts[number]
     return Cause(begin + len(part) - len(part.lstrip()), len(part.strip()), what, help)
-
-
-DOCUMENT_FAULTS = {"wrong shape": plan_shape, "out of range": lambda plan: first(_range_causes(plan)),
-                   "unknown key": lambda plan: unknown_key(plan, "the plan", DOCUMENT_KEYS)}
 
 
 MAX_NAME = 64
@@ -243,16 +226,12 @@ _SHAPED = _entry_run("(?:0|[1-9][0-9]{0,18}+)")
 _TIMED = _entry_run("[1-9][0-9]{0,18}+")
 
 
-def job_shape(_jobs, job):
-    """An object with all required keys, each of the right kind, down to the entries of the script."""
+def job_shape(job):
+    """The causes if a job isn't an object with all required keys, each of the right kind, down to its entries."""
     if job.kind != "object":
         help = 'write {"name": .., "mode": .., "schedule": .., "script": [ .. ]}'
-        return not_of_kind(job, "object", "the job", help)
-    return first(_job_shape_causes(job))
-
-
-def _job_shape_causes(job):
-    """The causes of a wrong shape of a job, each or None."""
+        yield not_of_kind(job, "object", "the job", help)
+        return
     for key in ("name", "mode", "schedule", "script"):
         if not job.get(key):
             yield missing(job, key, "the job", JOB_KEYS)
@@ -261,7 +240,7 @@ def _job_shape_causes(job):
     start, script = job.get("start"), job.get("script")
     yield start and not_whole(start, "start")
     yield not_of_kind(script, "list", '"script"', f"write [ {_ENTRY} ]")
-    yield first(_entry_cause(entry) for entry in script.items(_SHAPED))
+    yield from map(_entry_cause, script.items(_SHAPED))
 
 
 def _text_help(node, key):
@@ -301,13 +280,14 @@ def _entry_cause(entry):
     return first(value and not_whole(value, key) for key, value in zip(ENTRY_KEYS, (ms, ok, err)))
 
 
-def job_keys(_jobs, job):
-    """The job and its entries have no keys except those of the table."""
-    entries = (unknown_key(entry, "an entry", ENTRY_KEYS) for entry in job.get("script").items(_SHAPED))
-    return unknown_key(job, "a job", JOB_KEYS) or first(entries)
+def job_keys(job):
+    """The causes of keys that aren't in the table, of a job and its entries."""
+    yield from unknown_keys(job, "a job", JOB_KEYS)
+    for entry in job.get("script").items(_SHAPED):
+        yield from unknown_keys(entry, "an entry", ENTRY_KEYS)
 
 
-def mode(_jobs, job):
+def mode(job):
     """The mode is one of the two."""
     node = job.get("mode")
     said = node.string()
@@ -317,7 +297,7 @@ def mode(_jobs, job):
     return over(node, f'there is no mode "{shown(said)}"', f'did you mean "{meant}"?' if meant else both)
 
 
-def name(_jobs, job):
+def name(job):
     """A name has 1 to 64 bytes of the allowed ones."""
     node = job.get("name")
     said = node.string()
@@ -369,5 +349,10 @@ def schedule_fault(job, cause):
     return found._replace(at=at, size=node.place_in(found.at + found.size) - at)
 
 
-JOB_FAULTS = {"wrong shape": job_shape, "unknown key": job_keys, "out of range": mode, "bad name": name,
+# The cause of each fault of a document, and of a job: by the plan, and by the list of jobs and the job.
+DOCUMENT_FAULTS = {"wrong shape": lambda plan: first(plan_shape(plan)),
+                   "out of range": lambda plan: first(plan_ranges(plan)),
+                   "unknown key": lambda plan: first(unknown_keys(plan, "the plan", DOCUMENT_KEYS))}
+JOB_FAULTS = {"wrong shape": lambda _, job: first(job_shape(job)), "unknown key": lambda _, job: first(job_keys(job)),
+              "out of range": lambda _, job: mode(job), "bad name": lambda _, job: name(job),
               "name used before": same_name}

@@ -5,7 +5,7 @@ replacement has the same number of lines, so line numbers in causes remain those
 import itertools
 import json
 
-from zsched_tools.faults import Explained, Plan, explained
+from zsched_tools.faults import Plan, explained
 
 _GOOD = {"workers": "1", "grain": "1", "horizon": "0", "ticks": "[0]"}
 
@@ -57,7 +57,7 @@ def all_faults(refusal, data, most):
             yield line, found
             return
         at = mended.place(found.cause.at)
-        yield line, Explained(mended.text, found.cause._replace(at=at), found.job, found.name)
+        yield line, found._replace(text=mended.text, cause=found.cause._replace(at=at))
         if "plan is" in line or not _mend(mended, plan, found):
             return
 
