@@ -95,15 +95,9 @@ class Reader:
     knows the file's name puts it before."""
 
     def __init__(self):
-        self.line = 0
-        self.job = None
-        self.attempt = None
+        self.line = self.polls = self.polls_of_all = self.latest = 0
+        self.job = self.attempt = self.total = self.horizon = None
         self.is_step_due = False
-        self.total = None
-        self.polls = 0
-        self.polls_of_all = 0
-        self.latest = 0
-        self.horizon = None
 
     def take(self, text):
         """Takes the next line without its newline. Returns the record that is whole with it: an attempt, if no step
@@ -136,9 +130,7 @@ class Reader:
             return "attempt 1 or an end"
         if self.is_step_due:
             return f"step {last.number}"
-        if last.next is not None:
-            return f"attempt {last.number + 1} or an end"
-        return "an end"
+        return "an end" if last.next is None else f"attempt {last.number + 1} or an end"
 
     def _misplaced(self, match):
         self._refuse(f"is misplaced, expected {self._due()}", match[0])
@@ -153,9 +145,7 @@ class Reader:
     def _take_job(self, match):
         if self.job is not None:
             self._misplaced(match)
-        self.job = Job(match[1], match[2])
-        self.attempt = None
-        self.polls = 0
+        self.job, self.attempt, self.polls = Job(match[1], match[2]), None, 0
 
     def _take_attempt(self, match):
         number, begin, end, outcome, value = match.groups()
@@ -184,9 +174,8 @@ class Reader:
             self._misplaced(match)
         if not is_output(out):
             self._refuse("has no output of a schedule", match[0])
-        self.attempt.out = out
+        self.attempt.out, self.is_step_due = out, False
         self.attempt.next = None if following is None else self._number(following, match)
-        self.is_step_due = False
         return self.attempt
 
     def _take_end(self, match):
@@ -199,7 +188,13 @@ class Reader:
             self._refuse(f"has other polls than its attempts, {self.polls}", match[0])
         if not self._is_ending_of_last(ending):
             self._refuse("is not the end of the attempts before it", match[0])
-        self._hold_horizon(ending, match)
+        # All unfinished jobs have one horizon, and no job ended after it.
+        self.latest = max(self.latest, ending.at)
+        if ending.how == "unfinished" and self.horizon not in [None, ending.at]:
+            self._refuse(f"has another horizon than a job before it, {self.horizon}", match[0])
+        self.horizon = ending.at if ending.how == "unfinished" else self.horizon
+        if self.horizon is not None and self.latest > self.horizon:
+            self._refuse(f"is at odds with a horizon of {self.horizon} and a job that ended at {self.latest}", match[0])
         self.polls_of_all += ending.polls
         self.job = None
         return ending
@@ -216,16 +211,6 @@ class Reader:
         outcome = "ok" if ending.how == "succeeded" else "err"
         is_of_mode = self.job.mode == "retry" or ending.how == "failed"
         return is_of_mode and last.outcome == outcome and ending.value == last.value
-
-    def _hold_horizon(self, ending, match):
-        """All unfinished jobs have one horizon, and no job ended after it."""
-        self.latest = max(self.latest, ending.at)
-        if ending.how == "unfinished":
-            if self.horizon not in [None, ending.at]:
-                self._refuse(f"has another horizon than a job before it, {self.horizon}", match[0])
-            self.horizon = ending.at
-        if self.horizon is not None and self.latest > self.horizon:
-            self._refuse(f"is at odds with a horizon of {self.horizon} and a job that ended at {self.latest}", match[0])
 
     def _take_total(self, match):
         if self.job is not None:
