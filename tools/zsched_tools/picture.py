@@ -10,16 +10,10 @@ from zsched_tools.drawing import (Scale, View, cut_text, labels, opening, path, 
 from zsched_tools.reports import Attempt, Ending, Job
 from zsched_tools.words import duration, ending_text, plural
 
-MOST_JOBS = 200
-WIDTH = 1240
-MARGIN = 16
-WIDEST_NAME = 250
-WIDEST_VERDICT = 380
-AFTER_PLOT = 34
-LONGEST_RESULT = 24
-TITLE_SIZE = 16
-SMALL_SIZE = 11
-WAIT_SIZE = 11
+MOST_JOBS, LONGEST_RESULT = 200, 24
+# In pixels.
+WIDTH, MARGIN, AFTER_PLOT, WIDEST_NAME, WIDEST_VERDICT = 1240, 16, 34, 250, 380
+TITLE_SIZE, SMALL_SIZE, WAIT_SIZE = 16, 11, 11
 
 STYLE = """svg{color-scheme:light dark}text{font-family:"DejaVu Sans",Verdana,Geneva,sans-serif;fill:#1f2933}
 .title{font-size:16px;font-weight:bold}.large{font-size:13px}.small,.axis,.legend,.mode,.wide{font-size:11px}
@@ -43,11 +37,7 @@ PATTERNS = ('<pattern id="running" width="6" height="6" patternUnits="userSpaceO
 # In pixels: an attempt of at least the width ALONE has a separate shape, and every shape is at least NARROWEST wide.
 # Narrow attempts that are nearer than NEAR share a block, up to the width BLOCK. A shape is cut for the next one, but
 # not below the width LEAST.
-ALONE = 4.0
-NARROWEST = 3.0
-NEAR = 1.5
-BLOCK = 12.0
-LEAST = 0.8
+ALONE, NARROWEST, NEAR, BLOCK, LEAST = 4.0, 3.0, 1.5, 12.0, 0.8
 FAILED_HEIGHT = 0.56
 
 
@@ -84,20 +74,21 @@ class Shapes:
         is_narrow = right - left < ALONE and attempt.end is not None
         if is_narrow:
             right = max(right, left + NARROWEST)
+        failed = int(attempt.outcome == "err")
         if last is not None and is_narrow and last.is_narrow and left - last.right < NEAR and left - last.left < BLOCK:
-            last.last = attempt
-            last.right = right
-            last.count += 1
-            last.failed += attempt.outcome == "err"
-            return
-        self.found.append(Shape(left, right, is_narrow, attempt, attempt, 1, int(attempt.outcome == "err")))
+            last.last, last.right, last.count, last.failed = attempt, right, last.count + 1, last.failed + failed
+        else:
+            self.found.append(Shape(left, right, is_narrow, attempt, attempt, 1, failed))
 
 
-def attempt_title(attempt, name):
-    """The text of an attempt: number, moments, outcome, wait and step."""
-    if attempt.end is None:
-        words = f"attempt {attempt.number} of {name}: {attempt.begin} ms .., still running at the horizon"
-    else:
+def shape_title(shape, name):
+    """The text of a shape: the number of its attempts, or number, moments, outcome, wait and step of its attempt."""
+    attempt = shape.first
+    if shape.count > 1:
+        return (f"attempts {attempt.number} to {shape.last.number} of {name}: {attempt.begin}..{shape.last.end} ms, "
+                f"{shape.count - shape.failed} ok, {shape.failed} err")
+    words = f"attempt {attempt.number} of {name}: {attempt.begin} ms .., still running at the horizon"
+    if attempt.end is not None:
         words = (f"attempt {attempt.number} of {name}: {attempt.begin}..{attempt.end} ms, {attempt.outcome} "
                  f"{attempt.value}; took {duration(attempt.end - attempt.begin)}")
     if attempt.waited is not None:
@@ -108,47 +99,27 @@ def attempt_title(attempt, name):
     return words
 
 
-def shape_title(shape, name):
-    """The text of a shape: its attempt, or the number of its attempts."""
-    if shape.count == 1:
-        return attempt_title(shape.first, name)
-    return (f"attempts {shape.first.number} to {shape.last.number} of {name}: {shape.first.begin}..{shape.last.end} "
-            f"ms, {shape.count - shape.failed} ok, {shape.failed} err")
-
-
 def draw_shape(shape, middle, height, name):
-    """A shape at the middle of its row."""
-    title, right = shape_title(shape, name), shape.right
-    if not shape.is_narrow and right - shape.left > ALONE:
+    """A shape at the middle of its row. A block of many is tall if no attempt failed, low if all failed. In a mixed
+    one the lower part shows the share that failed, the upper part the share that succeeded."""
+    title, left, right = shape_title(shape, name), shape.left, shape.right
+    if not shape.is_narrow and right - left > ALONE:
         right -= 0.6
     top, bottom = middle - height / 2, middle + height / 2
-    low = bottom - height * FAILED_HEIGHT
+    low, share = bottom - height * FAILED_HEIGHT, shape.failed / shape.count
     if shape.first.outcome == "running":
-        yield rectangle(shape.left, top, right, bottom, "running", title)
+        yield rectangle(left, top, right, bottom, "running", title)
     elif shape.count == 1 and shape.failed:
-        yield rectangle(shape.left, low, right, bottom, "err", title)
+        yield rectangle(left, low, right, bottom, "err", title)
     elif shape.count == 1:
-        yield rectangle(shape.left, top, right, bottom, "ok", title, min(3, (right - shape.left) / 2))
+        yield rectangle(left, top, right, bottom, "ok", title, min(3, (right - left) / 2))
     else:
-        yield f"<g>{titled(title)}" + "".join(draw_many(shape, right, top, low, bottom)) + "</g>"
-
-
-def draw_many(shape, right, top, low, bottom):
-    """A block of many: tall if no attempt failed, low if all failed. In a mixed block the lower part shows the share
-    that failed, the upper part the share that succeeded."""
-    share = shape.failed / shape.count
-    if share == 0:
-        yield rectangle(shape.left, top, right, bottom, "ok")
-    elif share == 1:
-        top = low
-        yield rectangle(shape.left, low, right, bottom, "err")
-    else:
-        upper = low - max(1, (low - top) * (1 - share))
-        yield rectangle(shape.left, upper, right, low, "ok")
-        lower = low + max(1, (bottom - low) * share)
-        yield rectangle(shape.left, low, right, lower, "err")
-        top, bottom = upper, lower
-    yield rectangle(shape.left, top, right, bottom, "many")
+        if 0 < share < 1:
+            top, bottom = low - max(1, (low - top) * (1 - share)), low + max(1, (bottom - low) * share)
+        ok = [rectangle(left, top, right, low if share else bottom, "ok")] if share < 1 else []
+        err = [rectangle(left, low, right, bottom, "err")] if share else []
+        many = rectangle(left, low if share == 1 else top, right, bottom, "many")
+        yield f"<g>{titled(title)}" + "".join([*ok, *err, many]) + "</g>"
 
 
 def mark(how, x, y, size):
@@ -314,15 +285,13 @@ def draw_row(layout, number, row):
 
 def legend(layout, rows):
     """What the shapes mean: a drawing and its words, for each in the picture. Returns the elements and their height."""
-    drawn = list(legend_entries(layout, rows))
     elements, left, height = [], float(MARGIN), 22
-    for draw, words in drawn:
+    for draw, words in legend_entries(layout, rows):
         width = 22 + text_width(words, SMALL_SIZE)
         if left + width > WIDTH - MARGIN:
             left, height = float(MARGIN), height + 22
         middle = layout.foot + height - 4
-        elements += draw(left, middle)
-        elements.append(text(left + 22, middle + 4, words, "legend"))
+        elements += [*draw(left, middle), text(left + 22, middle + 4, words, "legend")]
         left += width + 20
     return elements, height + 12
 
@@ -330,20 +299,18 @@ def legend(layout, rows):
 def legend_entries(layout, rows):
     """The entries of the legend: how each is drawn at a place, and its words."""
     outcomes = {attempt.outcome for row in rows for attempt in row.attempts}
-    endings = {row.ending.how for row in rows}
-    if "ok" in outcomes:
-        yield lambda x, y: [rectangle(x, y - 7, x + 16, y + 7, "ok", corner=3)], "attempt ok"
-    if "err" in outcomes:
-        yield lambda x, y: [rectangle(x, y - 1, x + 16, y + 7, "err")], "attempt err"
-    if "running" in outcomes:
-        yield lambda x, y: [rectangle(x, y - 7, x + 16, y + 7, "running")], "attempt still running"
-    if any(shape.count > 1 for shapes in layout.shapes for shape in shapes):
-        yield (lambda x, y: [rectangle(x, y - 7, x + 16, y - 1, "ok"), rectangle(x, y - 1, x + 16, y + 7, "err"),
-                             rectangle(x, y - 7, x + 16, y + 7, "many")]), "many attempts"
+    is_many = any(shape.count > 1 for shapes in layout.shapes for shape in shapes)
+    for is_there, words, *parts in [
+            ("ok" in outcomes, "attempt ok", ("ok", -7, 7, 3)), ("err" in outcomes, "attempt err", ("err", -1, 7, 0)),
+            ("running" in outcomes, "attempt still running", ("running", -7, 7, 0)),
+            (is_many, "many attempts", ("ok", -7, -1, 0), ("err", -1, 7, 0), ("many", -7, 7, 0))]:
+        if is_there:
+            yield (lambda x, y, parts=parts: [rectangle(x, y + top, x + 16, y + bottom, style, corner=corner)
+                                              for style, top, bottom, corner in parts]), words
     if any(layout.waits):
         yield lambda x, y: [path(f"M{place(x)} {place(y)}h16", "wait")], "waiting"
     for how, words in [("succeeded", "retry succeeded"), ("failed", "failed"), ("finished", "repeat finished")]:
-        if how in endings:
+        if how in {row.ending.how for row in rows}:
             yield (lambda x, y, how=how: mark(how, x + 8, y, 6)), words
     if layout.horizon is not None:
         is_shown = layout.scale.first <= layout.horizon <= layout.scale.last
