@@ -9,14 +9,11 @@ from zsched_tools.reports import Attempt, records
 from zsched_tools.words import duration, plural
 
 # In pixels: the height of the bars of attempts, that of running and waiting, and that of the words above each.
-BARS = 56
-LINES = 40
-WORDS = 18
+BARS, LINES, WORDS = 56, 40, 18
 HEIGHT = BARS + LINES + 2 * WORDS + 8
 # The factor of the bars' heights in a picture that has only the strip.
 ALONE = 3
-FEWEST_ROWS = 17
-MOST_BARS = 200
+FEWEST_ROWS, MOST_BARS = 17, 200
 LEFT = 24
 
 
@@ -43,9 +40,11 @@ def strip(load, scale, top, times=1):
     rows, most, open_ = _shown(load, scale.first, scale.last)
     base, floor = _lines(top, times)
     every = duration(load.every)
-    if times > 1:
-        for foot, height, greatest in [(base, BARS, most), (floor, LINES, open_)]:
-            yield from _levels_of(scale, foot, times * height / max(1, greatest), greatest)
+    for foot, unit, greatest in [(base, times * BARS / max(1, most), most),
+                                 (floor, times * LINES / max(1, open_), open_)] if times > 1 else ():
+        for number in (it for it in steps_to(greatest) if it <= greatest):
+            yield path(f"M{place(scale.left)} {place(foot - number * unit)}H{place(scale.right)}", "grid")
+            yield text(scale.left - 5, foot - number * unit + 4, f"{number:,}", "legend", "end")
     yield _words(f"attempts in each {every}: those that ended, ok above err; a line: those that began; most: {most}",
                  f"in {every}: ok above err; line: begun; most: {most}", scale, top + WORDS - 5)
     yield from _bars(rows, load.every, scale, base, times * BARS / max(1, most))
@@ -60,14 +59,6 @@ def _lines(top, times):
     """The heights of the two lines at the bottom of the bars."""
     base = top + WORDS + times * BARS
     return base, base + WORDS + times * LINES
-
-
-def _levels_of(scale, base, unit, most):
-    """The lines of round numbers up to the most, with the numbers at the left."""
-    for number in steps_to(most):
-        if number <= most:
-            yield path(f"M{place(scale.left)} {place(base - number * unit)}H{place(scale.right)}", "grid")
-            yield text(scale.left - 5, base - number * unit + 4, f"{number:,}", "legend", "end")
 
 
 def _grid(moment, scale, top):
@@ -109,12 +100,11 @@ def _levels(rows, every, scale, base, unit):
     """The bars of what runs and what waits at the end of each step."""
     for row in rows:
         running, waiting = row[4:]
-        left, right = _places(row, every, scale)
+        (left, right), level = _places(row, every, scale), base - (running + waiting) * unit
         if running:
             yield rectangle(left, base - running * unit, right, base, "running")
         if waiting:
-            yield rectangle(left, base - (running + waiting) * unit, right, base - running * unit, "hatch")
-            level = base - (running + waiting) * unit
+            yield rectangle(left, level, right, base - running * unit, "hatch")
             yield path(f"M{place(left)} {place(level)}H{place(right)}", "edge")
 
 
@@ -156,22 +146,16 @@ def draw_strip(load, title, note=None, view=View(), width=None):
 class Crowd:
     """The jobs of a report that are drawn: the rows of at most MOST_JOBS jobs, the number of all, and their load."""
 
-    def __init__(self, chosen):
-        self.chosen, self.missing = frozenset(chosen), set(chosen)
-        self.rows, self.jobs, self.load = [], 0, Load(1)
-        self.attempts = []
+    def __init__(self):
+        self.rows, self.jobs, self.load, self.attempts = [], 0, Load(1), []
 
     def add(self, job, record):
-        """Adds a record of a job, if the job is drawn."""
-        if job is None or (self.chosen and job.name not in self.chosen):
-            return
+        """Adds a record of a job."""
         self.load = self.load.take(record).fitted()
         if isinstance(record, Attempt):
-            if self.jobs < picture.MOST_JOBS:
-                self.attempts.append(record)
+            self.attempts += [record] * (self.jobs < picture.MOST_JOBS)
             return
         self.jobs += 1
-        self.missing.discard(job.name)
         if self.jobs <= picture.MOST_JOBS:
             self.rows.append(picture.Row(job, self.attempts, record))
             self.attempts = []
@@ -179,11 +163,13 @@ class Crowd:
 
 def crowd_of(file, chosen, progress=None):
     """The jobs of a report, a binary file, that are drawn: the chosen ones, or all."""
-    crowd = Crowd(chosen)
+    crowd, missing = Crowd(), set(chosen)
     for job, record in records(file, progress):
-        crowd.add(job, record)
-    if crowd.missing:
-        raise Refused(f"has no job {min(crowd.missing)}")
+        if job is not None and (not chosen or job.name in chosen):
+            crowd.add(job, record)
+            missing.discard(job.name)
+    if missing:
+        raise Refused(f"has no job {min(missing)}")
     return crowd
 
 
