@@ -30,13 +30,19 @@ class Refused(Exception):
 def run(tool, work):
     """Does a command's work and returns its exit status: that of the work (None is 0), 2 if the input is rejected or a
     program isn't there, 3 if reading, writing or a program failed, 130 if the user interrupted it. Each of these has
-    one line on standard error. If the reader of standard output closes it, the process ends by SIGPIPE, as `yes`."""
+    one line on standard error. If the reader of standard output closes it, the process ends by SIGPIPE, as `yes`.
+    Ctrl-C is an exception in the work, so that it can clean up."""
     if sys.stdout is None:
         return _told(tool, "standard output is closed", FAILED)
+    before = signal.getsignal(signal.SIGINT)
     try:
-        status = work() or 0
-        sys.stdout.flush()
-        return status
+        try:
+            signal.signal(signal.SIGINT, signal.default_int_handler)
+            status = work() or 0
+            sys.stdout.flush()
+            return status
+        finally:
+            signal.signal(signal.SIGINT, before)
     except Refused as refused:
         return _told(tool, refused, REFUSED)
     except RecursionError:
@@ -164,6 +170,23 @@ def script(parser, work):
     return run(parser.prog, lambda: work(given))
 
 
+def main(arguments, work):
+    """The main function of a command: `arguments` makes its parser, `work` gets the parsed command line. Help and the
+    version are written as in `run`."""
+    def started():
+        parser, text = arguments(), io.StringIO()
+        try:
+            with contextlib.redirect_stdout(text):
+                given = parser.parse_args()
+        except SystemExit as ended:
+            if ended.code:
+                raise
+            return run(parser.prog, lambda: sys.stdout.write(text.getvalue()) and None)
+        _colored[0], _quiet[0] = given.color, given.quiet
+        return run(parser.prog, lambda: work(given))
+    return started
+
+
 class Paint:
     """Paints texts for a stream, if the choice and the stream allow it."""
 
@@ -219,11 +242,6 @@ def new_folder(path):
         os.rename(making, folder)
     finally:
         shutil.rmtree(making, ignore_errors=True)
-
-
-def choose(given):
-    """Sets when the last line of a command is coloured, and whether it writes notes."""
-    _colored[0], _quiet[0] = given.color, given.quiet
 
 
 def is_quiet():

@@ -3,7 +3,7 @@ import contextlib
 import json
 import sys
 
-from zsched_tools import command, faults, place, plan_size, program, starting
+from zsched_tools import command, faults, place, plan_size, program
 from zsched_tools.explain import all_faults
 from zsched_tools.words import WIDTH, shown
 
@@ -98,4 +98,4 @@ def tell(name, data, status, line, paint=place.unpainted):
     return status
 
 
-main = starting.command(TOOL, words, _explain)
+main = command.main(words, _explain)

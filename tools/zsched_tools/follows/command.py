@@ -7,7 +7,7 @@ import math
 import sys
 from typing import NamedTuple
 
-from zsched_tools import call_log, command, drawn, program, starting
+from zsched_tools import call_log, command, drawn, program
 from zsched_tools.call_log import Notes, in_ms
 from zsched_tools.command import Refused
 from zsched_tools.decisions import TOGETHER, Decisions, find_library
@@ -209,4 +209,4 @@ def arguments():
     return command.complete(parser)
 
 
-main = starting.command(TOOL, arguments, work)
+main = command.main(arguments, work)

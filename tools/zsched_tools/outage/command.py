@@ -3,7 +3,7 @@ import argparse
 import pathlib
 import sys
 
-from zsched_tools import command, plan_size, program, starting, words
+from zsched_tools import command, plan_size, program, words
 from zsched_tools.command import REFUSED, Paint, Refused
 from zsched_tools.drawn import HIGH, LOW
 from zsched_tools.durations import duration_argument
@@ -282,4 +282,4 @@ def arguments():
     return command.complete(parser)
 
 
-main = starting.command(TOOL, arguments, work)
+main = command.main(arguments, work)

@@ -1,5 +1,5 @@
 """The command zsched-plan: converts other files to a plan."""
-from zsched_tools import command, starting
+from zsched_tools import command
 from zsched_tools.plan.importing import add_command as add_from
 
 TOOL = "zsched-plan"
@@ -16,4 +16,4 @@ def _arguments():
     return parser
 
 
-main = starting.command(TOOL, _arguments, lambda given: given.work(given))
+main = command.main(_arguments, lambda given: given.work(given))

@@ -19,7 +19,7 @@ import sys
 import tempfile
 import urllib.parse
 
-from zsched_tools import bounding, command, faults, hints, plan_size, program, starting
+from zsched_tools import bounding, command, faults, hints, plan_size, program
 
 ADDRESS = "127.0.0.1"
 PORT = 8642
@@ -254,4 +254,4 @@ def arguments():
     return command.complete(words)
 
 
-main = starting.command("zsched-play", arguments, serve)
+main = command.main(arguments, serve)

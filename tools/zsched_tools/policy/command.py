@@ -4,7 +4,7 @@ import itertools
 import json
 import sys
 
-from zsched_tools import bounding, command, program, starting
+from zsched_tools import bounding, command, program
 from zsched_tools.command import NO, REFUSED, Paint, Refused
 from zsched_tools.drawn import Policy
 from zsched_tools.place import FaultAt, tell
@@ -322,4 +322,4 @@ def _arguments():
     return parser
 
 
-main = starting.command(TOOL, _arguments, lambda given: given.work(given))
+main = command.main(_arguments, lambda given: given.work(given))

@@ -5,7 +5,7 @@ import os
 import re
 import sys
 
-from zsched_tools import command, load, starting
+from zsched_tools import command, load
 from zsched_tools.command import Refused
 from zsched_tools.drawing import View
 from zsched_tools.durations import duration_argument
@@ -178,4 +178,4 @@ def _work(given):
     given.work(given)
 
 
-main = starting.command(TOOL, _arguments, _work)
+main = command.main(_arguments, _work)

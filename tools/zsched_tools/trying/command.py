@@ -6,7 +6,7 @@ import re
 import sys
 from dataclasses import replace
 
-from zsched_tools import bounding, command, plan_size, program, starting
+from zsched_tools import bounding, command, plan_size, program
 from zsched_tools.bounding import Driver
 from zsched_tools.command import REFUSED, Paint, Refused
 from zsched_tools.drawn import Policy, every, seeded
@@ -386,4 +386,4 @@ def arguments():
     return command.complete(parser)
 
 
-main = starting.command(TOOL, arguments, work)
+main = command.main(arguments, work)
