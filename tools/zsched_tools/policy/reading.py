@@ -10,6 +10,7 @@ from typing import NamedTuple
 from zsched_tools.command import Refused, read
 from zsched_tools.place import Cause, FaultAt, line_of
 from zsched_tools.plan.placed import key
+from zsched_tools.positions import Document
 from zsched_tools.words import shown
 
 MOST_BYTES = 2_000_000
@@ -18,7 +19,6 @@ MOST_VALUES = 200_000
 DEEPEST = 100
 DEBIAN = "/usr/lib/python3/dist-packages"
 NO_YAML = "YAML needs PyYAML, and it isn't installed (Debian: python3-yaml; pip: PyYAML)"
-_TOKEN = re.compile(r'"(?:[^"\\]|\\.)*"|[^\s,:\[\]{}"]+|[,:\[\]{}]')
 _PAIR = re.compile(r"((?:\\.|[^\\\s=:])+?)(\[[0-9]+\])?(?:\s*[=:]\s*|\s+|$)(.*)")
 _SECTION = re.compile(r"\s*\[\s*([^\]]*?)\s*\]\s*(?:[#;].*)?")
 _ASSIGNED = re.compile(r"(?:export\s+)?([A-Za-z_][\w.-]*)\s*=\s*(.*?)\s*(?:\s[#;].*)?")
@@ -75,24 +75,22 @@ def read_json(text):
     except (RecursionError, ValueError):
         raise Wrong(1, f"not JSON: nested deeper than {DEEPEST}, or a number is too long") from None
     starts = [0, *(found.end() for found in re.finditer("\n", text))]
-    tokens = ((found[0], bisect.bisect(starts, found.start())) for found in _TOKEN.finditer(text))
-    return _json_node(next(tokens), tokens, 0)
+    return _json_node(Document(text).root(), starts, 0)
 
 
-def _json_node(token, tokens, depth):
-    """The value that begins with a token of a document, which is a text with its line."""
-    (text, line), table, items = token, {}, []
+def _json_node(node, starts, depth):
+    """The Node of a value of a document, whose lines start at these places."""
+    line = bisect.bisect(starts, node.at)
     if depth > DEEPEST:
         raise Wrong(line, f"this is nested deeper than {DEEPEST}")
-    if text not in "{[":
-        return Node(json.loads(text) if text[0] == '"' else None if text == "null" else text, line)
-    while (found := next(tokens))[0] not in "}]":
-        if text == "[" and found[0] != ",":
-            items.append(_json_node(found, tokens, depth + 1))
-        elif found[0] != ",":
-            next(tokens)
-            _put(table, json.loads(found[0]), _json_node(next(tokens), tokens, depth + 1), found[1])
-    return _sized(table if text == "{" else items, line)
+    if node.kind == "list":
+        return _sized([_json_node(it, starts, depth + 1) for it in node.items()], line)
+    if node.kind != "object":
+        return Node(node.string() if node.kind == "text" else None if node.kind == "null" else node.source, line)
+    table = {}
+    for name, value in node.members():
+        _put(table, name.string(), _json_node(value, starts, depth + 1), bisect.bisect(starts, name.at))
+    return _sized(table, line)
 
 
 def _yaml_module():
