@@ -49,10 +49,12 @@ class Written:
     """A plan's text, a job a line. `place` maps a place of the text to the file."""
 
     def __init__(self, root):
-        self._pieces, self._length, self._marks = [], 0, []
-        self._table(root, 0)
-        self._put("\n")
-        self.text = "".join(self._pieces)
+        pieces, length, self._marks = [], 0, []
+        for text, *mark in _pieces(root, 0):
+            self._marks += [(length, *mark)] if mark else []
+            pieces.append(text)
+            length += len(text)
+        self.text = "".join([*pieces, "\n"])
 
     def place(self, at):
         """The place in the file of what is at a place of the text, and whether it is that of a character of a text."""
@@ -62,44 +64,25 @@ class Written:
             return place, False
         return inside + at - begin - 1, True
 
-    def _put(self, text):
-        self._pieces.append(text)
-        self._length += len(text)
 
-    def _mark(self, at, inside=None):
-        self._marks.append((self._length, at, inside))
-
-    def _value(self, value, depth, between=","):
-        if depth == DEEPEST:
-            raise FaultAt(Cause(value.at, 1, f"this is nested deeper than {DEEPEST}"))
-        if isinstance(value.data, dict):
-            self._table(value, depth)
-        elif isinstance(value.data, list):
-            self._mark(value.at)
-            self._list(value.data, depth, between)
-        else:
-            self._scalar(value)
-
-    def _list(self, items, depth, between):
-        edge = between[1:]
-        self._put("[" + edge)
-        for number, item in enumerate(items):
-            self._put(between if number else "")
-            self._value(item, depth + 1)
-        self._put(edge + "]")
-
-    def _table(self, value, depth):
-        self._mark(value.at)
-        self._put("{")
+def _pieces(value, depth, between=","):
+    """The pieces of a value's text, those with a place each with it and with that of its first character, or None."""
+    if depth == DEEPEST:
+        raise FaultAt(Cause(value.at, 1, f"this is nested deeper than {DEEPEST}"))
+    if isinstance(value.data, dict):
+        yield "{", value.at, None
         for number, (name, item) in enumerate(value.data.items()):
-            self._put("," if number else "")
-            self._mark(name.at)
-            self._put(f"{_json(name)}:")
-            self._value(item, depth + 1, ",\n" if depth == 0 and name == "jobs" else ",")
-        self._put("}")
-
-    def _scalar(self, value):
+            yield ("," if number else "",)
+            yield f"{_json(name)}:", name.at, None
+            yield from _pieces(item, depth + 1, ",\n" if depth == 0 and name == "jobs" else ",")
+        yield ("}",)
+    elif isinstance(value.data, list):
+        yield "[" + between[1:], value.at, None
+        for number, item in enumerate(value.data):
+            yield (between if number else "",)
+            yield from _pieces(item, depth + 1)
+        yield (between[1:] + "]",)
+    else:
         text = value.data if isinstance(value.data, Raw) else _json(value.data)
         has_letters = isinstance(value.data, str) and len(text) == len(value.data) + 2
-        self._mark(value.at, value.inside if has_letters else None)
-        self._put(text)
+        yield text, value.at, value.inside if has_letters else None
