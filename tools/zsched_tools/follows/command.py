@@ -73,28 +73,17 @@ class Difference(NamedTuple):
         return f"{self.request}: attempt {self.attempt}: {what}"
 
 
-class Counts:
-    """What was compared, and the number of differences of each kind and of requests that have one."""
-
-    def __init__(self):
-        self.requests, self.attempts, self.differing, self.kinds = 0, 0, 0, collections.Counter()
-
-    def json(self, differences):
-        """The result as an object of JSON."""
-        found = [dict(zip(Difference._fields[:-1], difference)) for difference in differences]
-        kinds = {kind: self.kinds[kind] for kind in KINDS}
-        return json.dumps({"requests": self.requests, "attempts": self.attempts, **kinds, "differences": found})
-
-    def summary(self):
-        head = f"{plural(self.requests, 'request')}, {plural(self.attempts, 'attempt')}"
-        if not self.differing:
-            return f"{head}: all follow the policy"
-        parts = [f"{self.kinds[kind]} {kind}" for kind in KINDS if self.kinds[kind]]
-        return f"{head}: {', '.join(parts)}, in {plural(self.differing, 'request')}"
+def summary(counts):
+    """What was compared, and the number of differences of each kind, in words."""
+    head = f"{plural(counts['requests'], 'request')}, {plural(counts['attempts'], 'attempt')}"
+    parts = [f"{counts[kind]} {kind}" for kind in KINDS if counts[kind]]
+    found = f"{', '.join(parts)}, in {plural(counts['differing'], 'request')}"
+    return f"{head}: {found if parts else 'all follow the policy'}"
 
 
 def differences(log, ends, given, counts):
-    """The differences of a log's attempts from a policy, the `ends` of whose waits are as Policy.ends returns them."""
+    """The differences of a log's attempts from a policy, the `ends` of whose waits are as Policy.ends returns them.
+    `counts` gets the numbers of requests, of attempts, of differences of each kind and of requests that have one."""
     *schedules, is_less, is_cut = ends
     library = find_library()
     decisions = {it: Decisions(it, given.mode, given.zsched, library) for it in schedules}
@@ -107,11 +96,10 @@ def differences(log, ends, given, counts):
             for it, found in waits.items():
                 decisions[it].run(_asked(attempts, given.mode, into) for (_, _, attempts), into in zip(group, found))
             for (name, begin, attempts), least, most in zip(group, *(waits[it] for it in schedules)):
-                counts.requests, counts.attempts = counts.requests + 1, counts.attempts + len(attempts)
                 ranges = [wait if wait is None else (0 if is_less else low, wait) for low, wait in zip(least, most)]
                 found = list(_differences(name, attempts, given, (ranges, is_cut), in_ms(latest - begin)))
-                counts.kinds.update(it.kind for it in found)
-                counts.differing += bool(found)
+                counts.update(requests=1, attempts=len(attempts), differing=int(bool(found)))
+                counts.update(it.kind for it in found)
                 if found:
                     progress.close()
                 yield from found
@@ -184,15 +172,16 @@ def work(given):
     command.note(f"{log.path}: {told}", TOOL)
     for place, text in notes.lines():
         command.note(f"{log.path}:{log.word}{place}: {text}", TOOL)
-    counts, paint = Counts(), command.Paint(given.color, sys.stdout)
+    counts, paint = collections.Counter(), command.Paint(given.color, sys.stdout)
     found = differences(log, policy.ends(), given, counts)
     if given.json:
-        print(counts.json(list(found)))
+        listed = [dict(zip(Difference._fields[:-1], it)) for it in found]
+        print(json.dumps({key: counts[key] for key in ["requests", "attempts", *KINDS]} | {"differences": listed}))
     else:
         for difference in found:
             print(shown(difference.line(), 10 * WIDTH))
-        print(paint("bad" if counts.differing else "good", counts.summary()))
-    return command.NO if counts.differing else 0
+        print(paint("bad" if counts["differing"] else "good", summary(counts)))
+    return command.NO if counts["differing"] else 0
 
 
 def arguments():

@@ -9,14 +9,10 @@ from zsched_tools.outage.curve import headline, policy_lines, state_words, table
 from zsched_tools.outage.scenario import DOWN, THOUSAND
 from zsched_tools.words import WIDTH, duration, shown
 
-MARGIN = 16
-PANEL = 120
-GAP = 34
+MARGIN, PANEL, GAP = 16, 120, 34
 # The room above a panel for the policy, and above its loads for what the service does.
 HEAD_ROOM, WORDS = 36, 18
-SMALL = 11
-LETTERS = 12
-TITLE = 14
+SMALL, LETTERS, TITLE = 11, 12, 14
 # A picture has no more columns than this; of more seconds some share one.
 MOST_COLUMNS = 600
 
@@ -104,32 +100,21 @@ def _wrapped(words, room):
 
 
 def _windows(layout, top):
-    for window in layout.scenario.windows:
+    """The shaded windows, what the service does in each if there is room for it, and a line at the attempts that it
+    serves in a second, if loads are as high as that: what is below the loads, and what is above them."""
+    below, above, names = [], [], []
+    for window in (it for it in layout.scenario.windows if it.begin < layout.scale.last):
         left, right = layout.scale.at(window.begin), layout.scale.at(window.end)
-        if window.begin < layout.scale.last:
-            words = f"{state_words(window)} from {window.begin} ms" + (
-                f" to {window.end} ms" if window.end <= layout.scenario.horizon else "")
-            style = "down" if window.state == DOWN else "full" if window.capacity is not None else "slow"
-            yield rectangle(left, top - WORDS, right, top + PANEL, style, words)
-
-
-def _window_names(layout, top):
-    """What the service does in each window, above all loads, if there is room for it."""
-    for window in layout.scenario.windows:
-        left, right = layout.scale.at(window.begin), layout.scale.at(window.end)
-        words = cut_text(state_words(window), SMALL, right - left - 8)
-        if window.begin < layout.scale.last and len(words) > 1:
-            yield text(left + 4, top - 5, words, "soft")
-
-
-def _capacities(layout, top):
-    """A line at the attempts that the service serves in a second of each window with a capacity, if loads are as high
-    as that."""
-    for window in layout.scenario.windows:
+        words = f"{state_words(window)} from {window.begin} ms" + (
+            f" to {window.end} ms" if window.end <= layout.scenario.horizon else "")
+        style = "down" if window.state == DOWN else "full" if window.capacity is not None else "slow"
+        below.append(rectangle(left, top - WORDS, right, top + PANEL, style, words))
         served = (window.capacity or 0) * THOUSAND / window.per
-        if window.begin < layout.scale.last and 0 < served <= layout.steps[-1]:
-            left, right = layout.scale.at(window.begin), layout.scale.at(window.end)
-            yield path(f"M{place(left)} {place(_height(layout, top, served))}H{place(right)}", "capacity")
+        if 0 < served <= layout.steps[-1]:
+            above.append(path(f"M{place(left)} {place(_height(layout, top, served))}H{place(right)}", "capacity"))
+        words = cut_text(state_words(window), SMALL, right - left - 8)
+        names += [text(left + 4, top - 5, words, "soft")] * (len(words) > 1)
+    return below, above + names
 
 
 def _grid(layout, top):
@@ -183,14 +168,14 @@ def _panel(layout, number, name):
     while text_width(words, SMALL) > room and "; " in words:
         words = words.rpartition("; ")[0]
     yield text(layout.left, top - WORDS - 7, words, "soft", title="; ".join(verdict))
-    yield from _windows(layout, top)
+    below, above = _windows(layout, top)
+    yield from below
     yield from _grid(layout, top)
     yield path(_area(layout, top, rows, lambda row: 0, lambda row: row[3]), "err")
     yield path(_area(layout, top, rows, lambda row: row[3], lambda row: row[2] + row[3]), "ok")
     yield path(_line(layout, top, rows, lambda row: row[4]), "running")
     yield path(_line(layout, top, rows, lambda row: row[1]), "begun")
-    yield from _capacities(layout, top)
-    yield from _window_names(layout, top)
+    yield from above
     yield path(f"M{place(layout.left)} {place(top + PANEL)}H{place(layout.scale.right)}", "edge")
 
 
@@ -198,7 +183,7 @@ def _legend(layout):
     """What the colours and lines mean, and the height of its foot."""
     left, base, found = float(MARGIN), layout.bottom + 44, []
     styles = {"begun": "begun", "ok": "ended ok", "err": "ended err", "running": "running", "capacity": "capacity"}
-    if not [*_capacities(layout, layout.top)]:
+    if not any('"capacity"' in it for it in _windows(layout, layout.top)[1]):
         del styles["capacity"]
     for style, words in styles.items():
         if left + 24 + text_width(words, SMALL) > layout.width - MARGIN:
