@@ -4,17 +4,16 @@ place.
 All moments and durations are milliseconds here; in the file they are whole numbers or texts such as "1.5s"."""
 import fractions
 import re
-from dataclasses import dataclass, field, replace
+from dataclasses import dataclass, replace
 from typing import NamedTuple
 
-from zsched_tools import json_reading
+from zsched_tools import faults, json_reading
 from zsched_tools.command import Refused
 from zsched_tools.drawn import Policy
 from zsched_tools.durations import milliseconds
 from zsched_tools.hints import near
 from zsched_tools.place import Cause, FaultAt
 from zsched_tools.plan_faults import over
-from zsched_tools.positions import Document
 from zsched_tools.program import LAST_MOMENT
 from zsched_tools.words import duration, listed, shown
 
@@ -63,14 +62,14 @@ class Budget(NamedTuple):
 @dataclass
 class Scenario:
     """What is simulated. `starts` has the moment of each client's first attempt."""
-    horizon: int = 0
-    seed: int = 0
-    starts: list = field(default_factory=list)
-    coming: str = ""
-    windows: list = field(default_factory=list)
-    outcomes: list = field(default_factory=list)
-    budget: Budget | None = None
-    policies: dict = field(default_factory=dict)
+    horizon: int
+    seed: int
+    starts: list
+    coming: str
+    windows: list
+    outcomes: list
+    budget: Budget | None
+    policies: dict
     title: str = ""
 
     @property
@@ -91,15 +90,17 @@ DEFAULTS = [Outcome(40, True, 200), Outcome(50, False, 503), Outcome(2000, True,
 
 def read_scenario(data):
     """The scenario of a file's bytes. FaultAt has a fault and its place."""
-    try:
-        text = data.decode()
-    except UnicodeDecodeError as bad:
-        text = data.decode(errors="replace")
-        raise FaultAt(_of_scenario(json_reading.no_utf8(data, text, len(data[:bad.start].decode())))) from None
-    cause = json_reading.fault_of(text)
+    read = faults.Plan(data)
+    cause = read.no_json if read.no_utf8 is None else json_reading.no_utf8(data, read.text, read.no_utf8)
     if cause is not None:
         raise FaultAt(_of_scenario(cause))
-    return _Reading(Document(text).root()).scenario
+    known = ["horizon", "seed", "clients", "windows", "outcomes", "budget", "policies"]
+    parts = _members(read.root, "the scenario", known, ["horizon", "clients", "policies"])
+    horizon, seed = _time(parts["horizon"], "the horizon"), _if(parts, "seed", _whole, "the seed", 0)
+    starts, coming = _clients(parts["clients"])
+    outcomes, windows = _outcomes(parts.get("outcomes")), list(_windows(parts.get("windows")))
+    budget = _budget(parts["budget"], outcomes) if "budget" in parts else None
+    return Scenario(horizon, seed, starts, coming, windows, outcomes, budget, dict(_policies(parts["policies"])))
 
 
 def _of_scenario(cause):
@@ -185,132 +186,115 @@ def _if(parts, key, read, what, default, *more):
     return read(parts[key], what, *more) if key in parts else default
 
 
-class _Reading:
-    """One pass over the parts of a scenario."""
+def _clients(node):
+    """The moment at which each client starts, and how they come, in words."""
+    if node.kind == "object" and any(name.string() == "starts" for name, _ in node.members()):
+        starts = _members(node, "clients", ["starts"], [])["starts"]
+        items = list(starts.items()) if starts.kind == "list" else []
+        if not 1 <= len(items) <= MOST_CLIENTS:
+            _refuse(starts, f'"starts" must be a list of 1 to {MOST_CLIENTS} times', 'write [0, 120, "1.5s"]')
+        return [_time(item, "a start") for item in items], "at their own starts"
+    parts = _members(node, "clients", ["number", "within", "per_second", "start"], ["number"])
+    number = _whole(parts["number"], "the number of clients", 1, MOST_CLIENTS)
+    start, time = _if(parts, "start", _time, "the start", 0), _if(
+        parts, "within", _time, "the time within which clients start", 0)
+    if "per_second" not in parts:
+        return [start + time * it // number for it in range(number)], (
+            f"within {duration(time)}" if time else "all at once")
+    if "within" in parts:
+        _refuse(parts["per_second"], 'clients start "within" a time or at a rate "per_second", not both')
+    rate = _whole(parts["per_second"], "the clients per second", 1, MOST_CLIENTS)
+    return [start + THOUSAND * it // rate for it in range(number)], f"{rate:,} a second"
 
-    def __init__(self, root):
-        known = ["horizon", "seed", "clients", "windows", "outcomes", "budget", "policies"]
-        parts = _members(root, "the scenario", known, ["horizon", "clients", "policies"])
-        self.scenario = Scenario(_time(parts["horizon"], "the horizon"), _if(parts, "seed", _whole, "the seed", 0))
-        self._clients(parts["clients"])
-        self._outcomes(parts.get("outcomes"))
-        self._windows(parts.get("windows"))
-        if "budget" in parts:
-            self._budget(parts["budget"])
-        self._policies(parts["policies"])
 
-    def _clients(self, node):
-        """The number of clients, and the moment at which each starts."""
-        if node.kind == "object" and any(name.string() == "starts" for name, _ in node.members()):
-            starts = _members(node, "clients", ["starts"], [])["starts"]
-            items = list(starts.items()) if starts.kind == "list" else []
-            if not 1 <= len(items) <= MOST_CLIENTS:
-                _refuse(starts, f'"starts" must be a list of 1 to {MOST_CLIENTS} times', 'write [0, 120, "1.5s"]')
-            self.scenario.starts = [_time(item, "a start") for item in items]
-            self.scenario.coming = "at their own starts"
-            return
-        parts = _members(node, "clients", ["number", "within", "per_second", "start"], ["number"])
-        number = _whole(parts["number"], "the number of clients", 1, MOST_CLIENTS)
-        start, time = _if(parts, "start", _time, "the start", 0), _if(
-            parts, "within", _time, "the time within which clients start", 0)
-        if "within" in parts and "per_second" in parts:
-            _refuse(parts["per_second"], 'clients start "within" a time or at a rate "per_second", not both')
-        if "per_second" in parts:
-            rate = _whole(parts["per_second"], "the clients per second", 1, MOST_CLIENTS)
-            self.scenario.starts = [start + THOUSAND * it // rate for it in range(number)]
-            self.scenario.coming = f"{rate:,} a second"
-        else:
-            self.scenario.starts = [start + time * it // number for it in range(number)]
-            self.scenario.coming = f"within {duration(time)}" if time else "all at once"
+def _outcomes(node):
+    """How an attempt ends in each state of the service. A full one is as one that is down, without "full"."""
+    parts = {} if node is None else _members(node, "outcomes", STATES, [])
+    found = [_outcome(parts[name], name) if name in parts else default for name, default in zip(STATES, DEFAULTS)]
+    return found + [_outcome(parts["full"], "full") if "full" in parts else found[DOWN]]
 
-    def _outcomes(self, node):
-        """How an attempt ends in each state of the service. A full one is as one that is down, without "full"."""
-        parts = {} if node is None else _members(node, "outcomes", STATES, [])
-        found = [self._outcome(parts[name], name) if name in parts else default
-                 for name, default in zip(STATES, DEFAULTS)]
-        self.scenario.outcomes = found + [self._outcome(parts["full"], "full") if "full" in parts else found[DOWN]]
 
-    @staticmethod
-    def _outcome(node, name):
-        """An outcome, written as an entry of a plan's script."""
-        parts = _members(node, f"the outcome of a service that is {name}", ["ms", "ok", "err"], ["ms"])
-        if ("ok" in parts) == ("err" in parts):
-            _refuse(node, 'an outcome has "ms" and one of "ok" and "err"', 'write {"ms": 50, "err": 503}')
-        is_ok = "ok" in parts
-        if name == "up" and not is_ok or name in ("down", "full") and is_ok:
-            _refuse(node, f'a service that is {name} returns {"ok" if name == "up" else "err"}',
-                    'a state in which it fails is "down"' if name == "up" else "")
-        value = _whole(parts["ok" if is_ok else "err"], "a code")
-        return Outcome(_whole(parts["ms"], "ms", 1, LAST_MOMENT), is_ok, value)
+def _outcome(node, name):
+    """An outcome, written as an entry of a plan's script."""
+    parts = _members(node, f"the outcome of a service that is {name}", ["ms", "ok", "err"], ["ms"])
+    if ("ok" in parts) == ("err" in parts):
+        _refuse(node, 'an outcome has "ms" and one of "ok" and "err"', 'write {"ms": 50, "err": 503}')
+    is_ok = "ok" in parts
+    if name == "up" and not is_ok or name in ("down", "full") and is_ok:
+        _refuse(node, f'a service that is {name} returns {"ok" if name == "up" else "err"}',
+                'a state in which it fails is "down"' if name == "up" else "")
+    value = _whole(parts["ok" if is_ok else "err"], "a code")
+    return Outcome(_whole(parts["ms"], "ms", 1, LAST_MOMENT), is_ok, value)
 
-    def _windows(self, node):
-        """The windows, in order and apart from one another."""
-        if node is not None and node.kind != "list":
-            _refuse(node, "windows must be a list in brackets", 'write [{"from": "0s", "to": "30s", "is": "down"}]')
-        last = 0
-        for item in node.items() if node is not None else ():
-            parts = _members(item, "a window", ["from", "to", "is", "capacity", "per"], ["from"])
-            begin = _time(parts["from"], "from")
-            end = _if(parts, "to", _time, "to", LAST_MOMENT + 1)
-            if begin < last:
-                _refuse(parts["from"], "this window begins before the one before it ends",
-                        "write the windows in order, and apart from one another")
-            if end <= begin:
-                _refuse(parts["to"], "this window ends before it begins")
-            if "is" not in parts and "capacity" not in parts:
-                _refuse(item, "this window changes nothing", 'write "is": "down", "is": "slow" or "capacity": 200')
-            self.scenario.windows.append(self._window(parts, begin, end))
-            last = end
 
-    @staticmethod
-    def _window(parts, begin, end):
-        state = STATES.index(_word(parts["is"], '"is"', STATES[:FULL])) if "is" in parts else UP
-        capacity = _if(parts, "capacity", _whole, "the capacity", None, 1, MOST_CLIENTS)
-        if capacity is not None and state == DOWN:
-            _refuse(parts["capacity"], "a service that is down has no capacity", 'remove "capacity", or "is"')
-        if "per" in parts and capacity is None:
-            _refuse(parts["per"], '"per" is the time of a "capacity"', 'write "capacity": 200, "per": "100ms"')
-        per = _if(parts, "per", _time, "per", THOUSAND)
-        if not per:
-            _refuse(parts["per"], '"per" is 0', 'write "100ms", or "1s"')
-        return Window(begin, end, state, capacity, per)
+def _windows(node):
+    """The windows, in order and apart from one another."""
+    if node is not None and node.kind != "list":
+        _refuse(node, "windows must be a list in brackets", 'write [{"from": "0s", "to": "30s", "is": "down"}]')
+    last = 0
+    for item in node.items() if node is not None else ():
+        parts = _members(item, "a window", ["from", "to", "is", "capacity", "per"], ["from"])
+        begin = _time(parts["from"], "from")
+        end = _if(parts, "to", _time, "to", LAST_MOMENT + 1)
+        if begin < last:
+            _refuse(parts["from"], "this window begins before the one before it ends",
+                    "write the windows in order, and apart from one another")
+        if end <= begin:
+            _refuse(parts["to"], "this window ends before it begins")
+        if "is" not in parts and "capacity" not in parts:
+            _refuse(item, "this window changes nothing", 'write "is": "down", "is": "slow" or "capacity": 200')
+        yield _window(parts, begin, end)
+        last = end
 
-    def _budget(self, node):
-        given = _members(node, "the budget", None, ["like"])
-        like = _word(given["like"], '"like"', list(BUDGETS))
-        parts = _members(node, f'a budget like "{like}"', BUDGETS[like], ["tokens"] * ("tokens" in BUDGETS[like]))
-        code = _if(parts, "err", _whole, "err", 0)
-        if any(code == outcome.value for outcome in self.scenario.outcomes if not outcome.is_ok):
-            _refuse(parts.get("err", node), f"{code} is an error code of the service too",
-                    'write "err": with another code, for clients whose retries the budget rejects')
-        retry = _if(parts, "retry", _thousandths, "retry", (5 if like == "aws" else 1) * THOUSAND)
-        ok = _if(parts, "ok", _thousandths, "ok", 100 if like == "grpc" else THOUSAND)
-        percent = _if(parts, "percent", _thousandths, "percent", 20 * THOUSAND)
-        if "tokens" in parts:
-            found = Budget(like, _thousandths(parts["tokens"], "tokens"), ok, retry, code)
-        elif like == "envoy":
-            found = Budget(like, 0, percent, _if(parts, "least", _whole, "least", 3), code)
-        else:
-            ttl, price = _if(parts, "ttl", _time, "ttl", 10 * THOUSAND), 100 * THOUSAND**2 // percent if percent else 1
-            reserve = _if(parts, "per_second", _whole, "per_second", 10) * price * ttl // THOUSAND
-            found = Budget(like, reserve, THOUSAND if percent else 0, price, code, ttl)
-        self.scenario.budget = found
 
-    def _policies(self, node):
-        parts = _members(node, "policies", None, [])
-        if not parts:
-            _refuse(node, "policies is empty", 'write {"NAME": "SCHEDULE"}, as {"backoff": "exponential(100)"}')
-        for name, (key, value) in zip(parts, node.members()):
-            if not re.fullmatch("[A-Za-z0-9_-][A-Za-z0-9._-]{0,63}", name):
-                _refuse(key, "a name has 1 to 64 letters, digits, - _ and .", "the names of its files begin with it")
-            if value.kind != "text":
-                _refuse(value, f"the policy {name} must be the text of a schedule", 'as "exponential(100)"')
-            try:
-                self.scenario.policies[name] = (Policy(value.string()), value)
-            except FaultAt as fault:
-                raise FaultAt(in_text(value, fault.cause)) from None
-            except Refused as refused:
-                _refuse(value, str(refused))
+def _window(parts, begin, end):
+    state = STATES.index(_word(parts["is"], '"is"', STATES[:FULL])) if "is" in parts else UP
+    capacity = _if(parts, "capacity", _whole, "the capacity", None, 1, MOST_CLIENTS)
+    if capacity is not None and state == DOWN:
+        _refuse(parts["capacity"], "a service that is down has no capacity", 'remove "capacity", or "is"')
+    if "per" in parts and capacity is None:
+        _refuse(parts["per"], '"per" is the time of a "capacity"', 'write "capacity": 200, "per": "100ms"')
+    per = _if(parts, "per", _time, "per", THOUSAND)
+    if not per:
+        _refuse(parts["per"], '"per" is 0', 'write "100ms", or "1s"')
+    return Window(begin, end, state, capacity, per)
+
+
+def _budget(node, outcomes):
+    like = _word(_members(node, "the budget", None, ["like"])["like"], '"like"', list(BUDGETS))
+    parts = _members(node, f'a budget like "{like}"', BUDGETS[like], ["tokens"] * ("tokens" in BUDGETS[like]))
+    code = _if(parts, "err", _whole, "err", 0)
+    if any(code == outcome.value for outcome in outcomes if not outcome.is_ok):
+        _refuse(parts.get("err", node), f"{code} is an error code of the service too",
+                'write "err": with another code, for clients whose retries the budget rejects')
+    retry = _if(parts, "retry", _thousandths, "retry", (5 if like == "aws" else 1) * THOUSAND)
+    ok = _if(parts, "ok", _thousandths, "ok", 100 if like == "grpc" else THOUSAND)
+    percent = _if(parts, "percent", _thousandths, "percent", 20 * THOUSAND)
+    if "tokens" in parts:
+        return Budget(like, _thousandths(parts["tokens"], "tokens"), ok, retry, code)
+    if like == "envoy":
+        return Budget(like, 0, percent, _if(parts, "least", _whole, "least", 3), code)
+    ttl, price = _if(parts, "ttl", _time, "ttl", 10 * THOUSAND), 100 * THOUSAND**2 // percent if percent else 1
+    reserve = _if(parts, "per_second", _whole, "per_second", 10) * price * ttl // THOUSAND
+    return Budget(like, reserve, THOUSAND if percent else 0, price, code, ttl)
+
+
+def _policies(node):
+    """The name of each policy, with the policy and its place."""
+    parts = _members(node, "policies", None, [])
+    if not parts:
+        _refuse(node, "policies is empty", 'write {"NAME": "SCHEDULE"}, as {"backoff": "exponential(100)"}')
+    for name, (key, value) in zip(parts, node.members()):
+        if not re.fullmatch("[A-Za-z0-9_-][A-Za-z0-9._-]{0,63}", name):
+            _refuse(key, "a name has 1 to 64 letters, digits, - _ and .", "the names of its files begin with it")
+        if value.kind != "text":
+            _refuse(value, f"the policy {name} must be the text of a schedule", 'as "exponential(100)"')
+        try:
+            yield name, (Policy(value.string()), value)
+        except FaultAt as fault:
+            raise FaultAt(in_text(value, fault.cause)) from None
+        except Refused as refused:
+            _refuse(value, str(refused))
 
 
 def in_text(node, cause):
