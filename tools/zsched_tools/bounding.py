@@ -150,14 +150,11 @@ def run(path, policies, driver=Driver(), waits=(100, 100), seconds=None):
 
 
 def _read(line, is_proved):
-    most, seen = line["attempts"]["most"], line["steps_seen"]
+    most, seen, is_cut = line["attempts"]["most"], line["steps_seen"], False
+    if most is None:
+        # The program looks at fewer steps of a policy with many nodes.
+        nodes = schedule_rules.folded(line["policy"], lambda _: 1, lambda _, *parts: 1 + sum(parts), lambda it, part: (
+            1 + part * (2 if it.word == "resetWhen" else 1)))
+        is_cut = seen >= max(1, min(MOST_STEPS, MOST_WORK // nodes))
     return Bounds(line["attempts"]["least"], most, line["longest_wait"], line["total_wait"], seen, line["longest_run"],
-                  line["attempt"]["most"] is not None, line["never_gives_up"], is_proved,
-                  most is None and seen >= _most_steps(line["policy"]))
-
-
-def _most_steps(policy):
-    """The number of steps of a policy at which the program looks, by the number of its nodes."""
-    nodes = schedule_rules.folded(policy, lambda _: 1, lambda _, *parts: 1 + sum(parts), lambda it, part: (
-        1 + part * (2 if it.word == "resetWhen" else 1)))
-    return max(1, min(MOST_STEPS, MOST_WORK // nodes))
+                  line["attempt"]["most"] is not None, line["never_gives_up"], is_proved, is_cut)

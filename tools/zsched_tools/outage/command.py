@@ -106,14 +106,6 @@ def _check_policies(scenario, zsched):
             raise FaultAt(in_text(node, fault.cause)) from None
 
 
-def _settled(search, say):
-    """The jobs of the plan of a policy, the simulated endings, and the runs of the clients that have no job."""
-    walk = search.settle(say)
-    jobs = list(search.final_jobs(walk))
-    others = {number: search.runs[number] for number, job in enumerate(jobs) if job is None}
-    return list(filter(None, jobs)), walk.endings, others
-
-
 def simulate(scenario, zsched, name, most_passes, say):
     """The run of one policy: its jobs, plans, reports and figures. `say` is called at each step with the share that is
     done and a line. It raises Unsettled or Uncertified."""
@@ -122,11 +114,15 @@ def simulate(scenario, zsched, name, most_passes, say):
     warn_of_lines(name, schedules)
     try:
         search = Search(scenario, zsched, schedules, most_passes, firsts)
-        jobs, endings, others = _settled(search, say)
+        walk = search.settle(say)
+        jobs = list(search.final_jobs(walk))
+        # The clients that have no job.
+        others = {number: search.runs[number] for number, job in enumerate(jobs) if job is None}
+        jobs = list(filter(None, jobs))
         plans, _ = cut_plans(scenario.horizon, jobs)
         say(1, "the certificate")
         reports = [program.run_plan(zsched, plan) for plan in plans]
-        clients = certified(scenario, endings, reports, others)
+        clients = certified(scenario, walk.endings, reports, others)
     except (Unsettled, Uncertified) as failed:
         raise type(failed)(f"policy {name}: {failed}") from None
     text = scenario.policies[name][0].source

@@ -39,15 +39,6 @@ def schedules_of(scenario, name, most=None):
     return [policy.schedule(seeded(scenario.seed, client), most) + after for client in clients]
 
 
-def _runs_in(report, kinds, unfinished):
-    """The runs in a report of clients that are never served. `kinds` has the failures with which each was run,
-    `unfinished` is the tail of one that is."""
-    for block, of_client in zip(blocks_of(report), kinds):
-        tail = _TAILS[ending_in(block)[0]]
-        begins = array("Q", [int(attempt[0]) for attempt in attempts_in(block)])
-        yield Run(begins, of_client, unfinished if tail == GOES_ON else tail)
-
-
 def shortest(kinds):
     """The kinds of a script that says the same: its last entry repeats."""
     return kinds.rstrip(kinds[-1:]) + kinds[-1:]
@@ -74,15 +65,12 @@ class Search:
             if not are_open:
                 return walk
             for client in are_open:
-                guesses[client] = self._failures(walk.found[client])
+                # The failures among the kinds of its attempts. Only the last attempt may be a success.
+                kinds = bytes(walk.found[client].translate(UNDENIED))
+                guesses[client] = kinds[:-1] if kinds and self.scenario.outcomes[kinds[-1]].is_ok else kinds
         names = ", ".join(map(name_of, are_open[:10])) + (", .." if len(are_open) > 10 else "")
         raise Unsettled(f"doesn't settle in {self.most_passes} passes; {plural(len(are_open), 'client')} "
                         f"{'is' if len(are_open) == 1 else 'are'} open: {names}")
-
-    def _failures(self, found):
-        """The failures among the kinds of a client's attempts. Only the last attempt may be a success."""
-        kinds = bytes(found.translate(UNDENIED))
-        return kinds[:-1] if kinds and self.scenario.outcomes[kinds[-1]].is_ok else kinds
 
     def _look(self, clients, guesses):
         """Runs some clients with their known failures and some more, and stores the runs."""
@@ -105,16 +93,15 @@ class Search:
         """Runs clients with these failures and the last entry up to a moment, and stores the runs."""
         if not looked:
             return
-        clients, kinds = list(looked), list(looked.values())
         schedules = self.firsts if self.passes == 1 else self.schedules
         jobs = [self._job(client, schedules, self._script(of_client if last else shortest(of_client)) + last)
                 for client, of_client in looked.items()]
-        plans, most = cut_plans(until, jobs, most)
-        tail = CUT if until < self.scenario.horizon else GOES_ON
-        for number, plan in enumerate(plans):
-            part = slice(number * most, (number + 1) * most)
-            for client, run in zip(clients[part], _runs_in(run_plan(self.zsched, plan), kinds[part], tail)):
-                self.runs[client] = run
+        plans, _ = cut_plans(until, jobs, most)
+        tails = _TAILS | {"unfinished": CUT if until < self.scenario.horizon else GOES_ON}
+        blocks = (block for plan in plans for block in blocks_of(run_plan(self.zsched, plan)))
+        for block, (client, kinds) in zip(blocks, looked.items()):
+            begins = array("Q", [int(attempt[0]) for attempt in attempts_in(block)])
+            self.runs[client] = Run(begins, kinds, tails[ending_in(block)[0]])
 
     def _job(self, client, schedules, entries):
         return job_text(name_of(client), schedules[client], entries, start=self.scenario.starts[client])

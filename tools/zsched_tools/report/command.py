@@ -95,16 +95,10 @@ _ROW_ORDERS = {"end": lambda row: row.ending.at, "name": lambda row: row.job.nam
                "attempts": lambda row: -len(row.attempts)}
 
 
-def _crowd(given):
-    """The jobs to draw, in order. If they are too many for rows, their load is drawn, with a note."""
-    crowd = _with_source(given, lambda file, progress: crowd_of(file, given.job, progress))
-    if given.sort:
-        crowd.rows.sort(key=_ROW_ORDERS[given.sort])
-    return crowd
-
-
 def _draw(given, is_page):
-    crowd, view = _crowd(given), View(given.first, given.last, given.log)
+    crowd = _with_source(given, lambda file, progress: crowd_of(file, given.job, progress))
+    crowd.rows.sort(key=_ROW_ORDERS.get(given.sort, lambda _: 0))
+    view = View(given.first, given.last, given.log)
     if not is_page:
         pieces = (f"{line}\n" for line in draw_crowd(crowd, given.title, view))
     elif crowd.jobs <= MOST_JOBS:
