@@ -55,6 +55,11 @@ def tell(place, text, cause, paint):
     print(*place_lines(place, text, cause, paint), sep="\n", file=sys.stderr)
 
 
+def tell_policy(head, text, cause, paint):
+    """Shows a cause in a policy of the command line on standard error."""
+    tell(f"{head}byte {len(text[:cause.at].encode())}", text, cause, paint)
+
+
 def told(name, text, cause, job=None):
     """The lines that show the place of a cause in a file's text, without a newline at the end."""
     lines = list(place_lines(in_file(name, text, cause), text, cause, unpainted))

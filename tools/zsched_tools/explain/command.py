@@ -49,9 +49,17 @@ def _explain(taken):
     for found in [many, plan_size.workers_warning(data), repeated_key(data)]:
         plan_size.warn(TOOL, found, taken.color)
     status, line = outcome(zsched, plan_size.with_one_tick(data) if many else data)
-    if status == command.REFUSED and taken.all:
-        return _tell_all(name, zsched, data, taken.most, paint)
-    return tell(name, data, status, line, paint)
+    if status != command.REFUSED or not taken.all:
+        return tell(name, data, status, line, paint)
+    count, most = 0, taken.most
+    # The program runs with a clock of one moment.
+    refused = all_faults.all_faults(lambda text: outcome(zsched, plan_size.with_one_tick(text)), data, most + 1)
+    for count, (line, found) in enumerate(refused, 1):
+        if count <= most:
+            sys.stderr.write(f"{paint('bad', line.strip())}\n{place.fault_lines(name, found, paint)}")
+    shown_faults = f"{min(count, most)} fault{'s' * (count > 1)}"
+    sys.stderr.write(f"{shown_faults}; there are more: --most N shows N\n" if count > most else f"{shown_faults}\n")
+    return command.REFUSED
 
 
 def repeated_key(data):
@@ -64,19 +72,6 @@ def repeated_key(data):
     with contextlib.suppress(ValueError, RecursionError):
         json.loads(data, object_pairs_hook=read)
     return f'an object has the key "{shown(found[0])}" twice, and the last one counts' if found else None
-
-
-def _tell_all(name, zsched, data, most, paint):
-    """Writes all faults of a plan, which the program runs with a clock of one moment. Returns the status."""
-    count = 0
-    refused = all_faults.all_faults(lambda text: outcome(zsched, plan_size.with_one_tick(text)), data, most + 1)
-    for line, found in refused:
-        count += 1
-        if count <= most:
-            sys.stderr.write(f"{paint('bad', line.strip())}\n{place.fault_lines(name, found, paint)}")
-    shown_faults = f"{min(count, most)} fault{'s' * (count > 1)}"
-    sys.stderr.write(f"{shown_faults}; there are more: --most N shows N\n" if count > most else f"{shown_faults}\n")
-    return 2
 
 
 def outcome(zsched, data, seconds=None):

@@ -7,7 +7,7 @@ import sys
 from zsched_tools import bounding, command, program
 from zsched_tools.command import NO, REFUSED, Paint, Refused
 from zsched_tools.drawn import Policy
-from zsched_tools.place import FaultAt, tell
+from zsched_tools.place import FaultAt, tell_policy
 from zsched_tools.policy import libraries, python_source, reading, services
 from zsched_tools.policy.explaining import explained
 from zsched_tools.policy.reading import Wrong
@@ -102,15 +102,6 @@ zsched-bounds proves: here six attempts are both the least with the test and the
 the parts alone are explained."""
 EXPLAIN_EPILOG = """Exit status: 0; 2 if the policy or an option is wrong, or if there is no zsched; 3 if a program or
 writing fails."""
-
-
-def _add_diff(forms):
-    given = forms.add_parser("diff", description=ABOUT, epilog=DIFF_EPILOG, help="what differs between two policies")
-    given.add_argument("policies", metavar="A", help="a schedule")
-    given.add_argument("other", metavar="B", help="another one")
-    add_attempts(given)
-    given.add_argument("--json", action="store_true", help="print one object")
-    given.set_defaults(work=_diff)
 
 
 def _by(one, other, more, less, name=""):
@@ -208,7 +199,7 @@ def _differences(given, report, found, bounds):
 
 def _explain(given):
     """Prints a policy in words; returns the status."""
-    zsched, policy = program.find(given.zsched), None
+    zsched = program.find(given.zsched)
     try:
         policy = Policy(given.policy, zsched)
         policy.check(zsched)
@@ -216,8 +207,7 @@ def _explain(given):
         for line in explained(policy, program.find_bounds(given.bounds)):
             print(line)
     except FaultAt as fault:
-        tell(f"{TOOL}: byte {len(given.policy[:fault.cause.at].encode())}", given.policy, fault.cause,
-             Paint(given.color, sys.stderr))
+        tell_policy(f"{TOOL}: ", given.policy, fault.cause, Paint(given.color, sys.stderr))
         return REFUSED
     return 0
 
@@ -314,7 +304,12 @@ def _arguments():
     given.add_argument("--name", metavar="NAME", help="only the policy with this name")
     given.add_argument("--plain", action="store_true", help="only the schedule of each policy")
     given.set_defaults(work=_import)
-    _add_diff(forms)
+    given = forms.add_parser("diff", description=ABOUT, epilog=DIFF_EPILOG, help="what differs between two policies")
+    given.add_argument("policies", metavar="A", help="a schedule")
+    given.add_argument("other", metavar="B", help="another one")
+    add_attempts(given)
+    given.add_argument("--json", action="store_true", help="print one object")
+    given.set_defaults(work=_diff)
     given = forms.add_parser("explain", description=EXPLAIN, epilog=EXPLAIN_EPILOG, help="a policy in words")
     given.add_argument("policy", metavar="POLICY", help="a schedule, or a text that zsched-try takes")
     command.add_programs(given, True)

@@ -11,7 +11,7 @@ from zsched_tools.bounding import Driver
 from zsched_tools.command import REFUSED, Paint, Refused
 from zsched_tools.drawn import Policy, every, seeded
 from zsched_tools.durations import duration_argument
-from zsched_tools.place import FaultAt, tell
+from zsched_tools.place import FaultAt, tell_policy
 from zsched_tools.program import LAST_MOMENT, cut_plans, job_text
 from zsched_tools.schedule_rules import any_cause
 from zsched_tools.strip import crowd_of, draw_crowd
@@ -195,13 +195,6 @@ def _read(given):
         given.schedules.append(given.read[-1].schedule(seeded(given.seed)))
 
 
-def _wrong(tool, given, cause):
-    text = given.policies[given.at]
-    which = f"policy {given.at + 1}, " if len(given.policies) > 1 else ""
-    place = f"{tool}: {which}byte {len(text[:cause.at].encode())}"
-    tell(place, text, cause, Paint(given.color, sys.stderr))
-
-
 def of_all(given, *policies):
     """What the bounds of policies are for, with what runs them."""
     driver, *others = {driver_of(given, it) for it in policies}
@@ -279,7 +272,8 @@ def tried(tool, given, is_plan=False):
                                               for name, schedule, script in jobs])
         report = joined([_run(tool, given, plan, number * most) for number, plan in enumerate(plans)])
     except FaultAt as fault:
-        return _wrong(tool, given, fault.cause)
+        which = f"policy {given.at + 1}, " if len(given.policies) > 1 else ""
+        return tell_policy(f"{tool}: {which}", given.policies[given.at], fault.cause, Paint(given.color, sys.stderr))
     for policy in given.read:
         policy.show(tool, given.attempt is None or (getattr(given, "over", []) and policy is not given.read[-1]))
         if policy.is_drawn:
@@ -290,16 +284,11 @@ def tried(tool, given, is_plan=False):
     return report
 
 
-def _check_requirements(given):
-    """Warns of attempts beside which the waits alone say little."""
+def work(given):
     total, longest = given.require_total, given.fails[0] if given.fails else 0
     if total is not None and 10 * longest > total:
         command.note(f"--require-total limits the waits alone, and each attempt of --fails takes {duration(longest)}; "
                      "--attempt and --require-end limit the whole call", TOOL)
-
-
-def work(given):
-    _check_requirements(given)
     if given.over:
         return _work_over(given)
     found = tried(TOOL, given, given.plan)
