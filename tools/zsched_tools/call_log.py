@@ -186,19 +186,15 @@ class Reader:
         parts = [f"{word} {column.name} ({it.form or 'no row'})" for word, column, it in forms if it]
         self.told = ", ".join([f"request {self.request.name}", *parts, f"status {self.status.name}"])
 
-    @functools.cached_property
-    def _order(self):
-        """The places of the attempts, those of a request together, in the order of their begins."""
+    def requests(self):
+        """Each request with its attempts, in the order of their begins if the log has moments, else of the rows."""
         order, first = range(len(self.rows)), {}
         if self.has_moments:
             order = sorted(order, key=self.begins.__getitem__)
         for at in order:
             first.setdefault(self.names[at], len(first))
-        return sorted(order, key=lambda at: first[self.names[at]])
-
-    def requests(self):
-        """Each request with its attempts, in the order of their begins if the log has moments, else of the rows."""
-        for name, places in itertools.groupby(self._order, self.names.__getitem__):
+        order = sorted(order, key=lambda at: first[self.names[at]])
+        for name, places in itertools.groupby(order, self.names.__getitem__):
             yield name, [Call(self.begins[at] if self.has_moments else None, self.lengths[at], *self.statuses[at],
                               self.rows[at]) for at in places]
 

@@ -54,18 +54,13 @@ def explained(plan, fault):
             return Explained(text, json_reading.no_utf8(data, text, plan.no_utf8))
         found = plan.no_json or _unknown(0)
         return Explained(text, json_reading.other_text(text, found.at) or found)
-    return _in_document(plan.root, text, fault)
-
-
-def _in_document(plan, text, fault):
-    """The place and the cause of a fault in a document."""
-    of_document, of_job = _OF_DOCUMENT.fullmatch(fault), _OF_JOB.fullmatch(fault)
+    of_document, of_job, root = _OF_DOCUMENT.fullmatch(fault), _OF_JOB.fullmatch(fault), plan.root
     if of_job:
-        jobs, number = plan.get("jobs"), int(of_job["job"])
+        jobs, number = root.get("jobs"), int(of_job["job"])
         job = next(node for index, node in enumerate(jobs.items()) if index == number)
         return Explained(text, _of_job(jobs, job, of_job["cause"]) or _unknown(job.at), number, _name_of(job))
-    found = DOCUMENT_FAULTS[of_document["cause"]](plan) if of_document else None
-    return Explained(text, found or _unknown(plan.at))
+    found = DOCUMENT_FAULTS[of_document["cause"]](root) if of_document else None
+    return Explained(text, found or _unknown(root.at))
 
 
 def _of_job(jobs, job, cause):

@@ -215,18 +215,6 @@ def draw_grid(layout, count):
         yield path(f"M{place(x)} {place(layout.top)}V{place(layout.bottom)}", "horizon", title)
 
 
-def draw_moments(layout):
-    """The labels of the moments above the rows."""
-    yield rectangle(0, layout.top - 24 - (18 if layout.base else 0), WIDTH, layout.top, "page")
-    if layout.base:
-        yield text(layout.left, layout.top - 28, f"time since moment {layout.base} ms", "axis")
-    for moment, label in layout.labels:
-        x = layout.scale.at(moment)
-        yield path(f"M{place(x)} {place(layout.top - 5)}V{place(layout.top)}", "grid")
-        yield text(x, layout.top - 10, label, "axis", "middle")
-    yield path(f"M{place(layout.left)} {place(layout.top)}H{place(layout.right)}", "edge")
-
-
 def waits_of(row, shapes, scale):
     """The waits of a job that are long enough to be seen: the two ends, and the length, which is None for a wait that
     continues at the horizon. A wait that begins or ends outside of the picture is drawn to its edge."""
@@ -244,8 +232,10 @@ def waits_of(row, shapes, scale):
             yield shapes[-1].right, scale.right, None
 
 
-def draw_waits(layout, waits, middle):
-    """The time between attempts, with its length if there is room."""
+def draw_row(layout, number, row):
+    """A job's attempts, and how it ended."""
+    middle, shapes, waits = layout.middle(number), layout.shapes[number], layout.waits[number]
+    # The time between attempts, with its length if there is room.
     for left, right, time in waits:
         if time is None:
             yield path(f"M{place(right - 5)} {place(middle - 4)}l5 4l-5 4", "arrow")
@@ -253,23 +243,6 @@ def draw_waits(layout, waits, middle):
             yield text((left + right) / 2, middle - 5, duration(time), "wide", "middle")
     if waits:
         yield path("".join(f"M{place(left)} {place(middle)}H{place(right)}" for left, right, _ in waits), "wait")
-
-
-def draw_names(layout, rows):
-    yield rectangle(0, layout.top, layout.left - 2, layout.bottom, "page")
-    yield from draw_bands(layout, len(rows), layout.left - 2)
-    for number, row in enumerate(rows):
-        base = layout.middle(number) + layout.size * 0.35
-        name = cut_text(row.job.name, layout.size, layout.name_room)
-        yield text(MARGIN, base, name, layout.style, title=row.job.name if name != row.job.name else None)
-        yield text(layout.left - 10, base, row.job.mode, "mode", "end")
-
-
-def draw_row(layout, number, row):
-    """A job's attempts, and how it ended."""
-    middle = layout.middle(number)
-    shapes = layout.shapes[number]
-    yield from draw_waits(layout, layout.waits[number], middle)
     for shape in shapes:
         yield from draw_shape(shape, middle, layout.bar, row.job.name)
     if shapes and row.ending.how != "unfinished" and shapes[-1].last is row.attempts[-1]:
@@ -346,7 +319,21 @@ def draw_jobs(layout, rows):
     if len(rows) >= strip.FEWEST_ROWS:
         yield from strip.strip(strip.load_of_rows(rows, layout.scale), layout.scale, layout.bottom + 24)
     yield '<g id="names">'
-    yield from draw_names(layout, rows)
+    yield rectangle(0, layout.top, layout.left - 2, layout.bottom, "page")
+    yield from draw_bands(layout, len(rows), layout.left - 2)
+    for number, row in enumerate(rows):
+        base = layout.middle(number) + layout.size * 0.35
+        name = cut_text(row.job.name, layout.size, layout.name_room)
+        yield text(MARGIN, base, name, layout.style, title=row.job.name if name != row.job.name else None)
+        yield text(layout.left - 10, base, row.job.mode, "mode", "end")
     yield '</g><g id="moments">'
-    yield from draw_moments(layout)
+    # The labels of the moments above the rows.
+    yield rectangle(0, layout.top - 24 - (18 if layout.base else 0), WIDTH, layout.top, "page")
+    if layout.base:
+        yield text(layout.left, layout.top - 28, f"time since moment {layout.base} ms", "axis")
+    for moment, label in layout.labels:
+        x = layout.scale.at(moment)
+        yield path(f"M{place(x)} {place(layout.top - 5)}V{place(layout.top)}", "grid")
+        yield text(x, layout.top - 10, label, "axis", "middle")
+    yield path(f"M{place(layout.left)} {place(layout.top)}H{place(layout.right)}", "edge")
     yield "</g>"

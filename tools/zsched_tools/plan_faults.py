@@ -248,21 +248,16 @@ def _text_help(node, key):
     if key == "schedule" and node.kind == "object":
         return 'write the schedule as one text, as "(exponential(100) && recurs(5))"'
     if key == "schedule" and node.kind == "list":
-        return _listed_delays(list(node.items()))
+        delays = [item.whole() for item in node.items()]
+        if not 1 <= len(delays) <= 4 or None in delays:
+            return 'write one text; docs/RECIPES.md has "A list of delays"'
+        *firsts, last = [f"(recurs(1) && spaced({delay}))" for delay in delays]
+        whole = "".join(f"({it} andThenEither " for it in firsts) + last + ")" * len(firsts)
+        return f'write "{whole}"'
     if key == "name" and node.kind == "number":
         return f'write "{shown(node.source)}"'
     examples = {"name": '"poll-queue"', "mode": '"retry" or "repeat"', "schedule": '"recurs(3)"'}
     return f"write {examples[key]}"
-
-
-def _listed_delays(items):
-    """What to write in place of a list of delays."""
-    delays = [item.whole() for item in items]
-    if not 1 <= len(delays) <= 4 or None in delays:
-        return 'write one text; docs/RECIPES.md has "A list of delays"'
-    *firsts, last = [f"(recurs(1) && spaced({delay}))" for delay in delays]
-    whole = "".join(f"({first} andThenEither " for first in firsts) + last + ")" * len(firsts)
-    return f'write "{whole}"'
 
 
 def _entry_cause(entry):

@@ -89,19 +89,14 @@ def with_one_tick(plan):
         tree = json.loads(plan.decode(), parse_int=_whole, parse_float=_no_whole, parse_constant=_no_whole)
     except (ValueError, RecursionError):
         return plan
-    if len(plan) > program.MAX_BYTES or not isinstance(tree, dict) or not _is_clock(tree):
+    if len(plan) > program.MAX_BYTES or not isinstance(tree, dict) or ("horizon" in tree) == ("ticks" in tree):
+        return plan
+    ticks = _clock(tree)
+    if not (isinstance(ticks, list) and 1 <= len(ticks) <= _MOST_TICKS and all(type(tick) is int for tick in ticks)
+            and all(tick < later for tick, later in itertools.pairwise(ticks)) and ticks[-1] <= program.LAST_MOMENT):
         return plan
     tree.update({"horizon": 0} if "horizon" in tree else {"ticks": [0]})
     return json.dumps(tree, ensure_ascii=False, separators=(",", ":")).encode(errors="surrogatepass")
-
-
-def _is_clock(tree):
-    """Whether a document has a clock in its range."""
-    if ("horizon" in tree) == ("ticks" in tree):
-        return False
-    ticks = _clock(tree)
-    return (isinstance(ticks, list) and 1 <= len(ticks) <= _MOST_TICKS and all(type(tick) is int for tick in ticks)
-            and all(tick < later for tick, later in itertools.pairwise(ticks)) and ticks[-1] <= program.LAST_MOMENT)
 
 
 def _whole(text):

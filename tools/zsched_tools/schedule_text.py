@@ -56,12 +56,7 @@ def cause_of(text, fault):
     if place[1] == "number too large":
         size = len(TOKEN.match(text, at)[0])
         return Cause(at, size, said("too_large"), said("greatest"))
-    before = list(TOKEN.finditer(text, max(0, at - WINDOW), at))
-    return _no_term(Spot(text, at, before, text[at:at + WINDOW]))
-
-
-def _no_term(spot):
-    """The cause of a place at which no schedule continues."""
+    spot = Spot(text, at, list(TOKEN.finditer(text, max(0, at - WINDOW), at)), text[at:at + WINDOW])
     if not spot.rest:
         return _ended(spot)
     expected = expectation(spot.before)

@@ -73,7 +73,12 @@ def _mend(mended, plan, found):
     members = list(plan.root.members())
     for number, (name, value) in enumerate(members):
         if name.at == found.cause.at and name.string() not in [*_GOOD, "jobs"]:
-            begin, end = _around(plan.text, name.at, value.end, number == len(members) - 1)
+            # The member goes with the comma after it, or before it if it is the last one.
+            begin, end = name.at, plan.text.find(",", value.end) + 1
+            if number == len(members) - 1:
+                comma = plan.text.rfind(",", 0, begin)
+                is_after = comma >= 0 and not plan.text[comma + 1:begin].strip()
+                begin, end = comma if is_after else begin, value.end
             return _replace(mended, begin, end, "")
         if value.at <= found.cause.at < value.end and name.string() in _GOOD:
             return _replace(mended, value.at, value.end, _GOOD[name.string()])
@@ -84,11 +89,3 @@ def _replace(mended, begin, end, text):
     """Replaces a piece of the mended text that wasn't replaced before."""
     mended.replace(mended.place(begin), mended.place(end - 1) + 1, text)
     return True
-
-
-def _around(text, begin, end, is_last):
-    """The piece of a member with the comma after it, or before it if it is the last one."""
-    if not is_last:
-        return begin, text.index(",", end) + 1
-    comma = text.rfind(",", 0, begin)
-    return (comma if comma >= 0 and not text[comma + 1:begin].strip() else begin), end

@@ -93,19 +93,17 @@ def _json_node(node, starts, depth):
     return _sized(table, line)
 
 
-def _yaml_module():
-    """PyYAML, of this Python or of Debian's."""
-    for more in [], [DEBIAN]:
-        sys.path += more
-        with contextlib.suppress(ImportError):
-            return importlib.import_module("yaml")
-    raise OSError(NO_YAML)
-
-
 def documents(text, make, deepest, most):
     """The values of the documents of a YAML text, at most `most` with aliases written out. `make` makes one, with a
     member `data`, of a dict, a list or a scalar's text, its mark, and a scalar's kind. FaultAt has a fault."""
-    yaml = _yaml_module()
+    # PyYAML, of this Python or of Debian's.
+    for more in [], [DEBIAN]:
+        sys.path += more
+        with contextlib.suppress(ImportError):
+            yaml = importlib.import_module("yaml")
+            break
+    else:
+        raise OSError(NO_YAML)
     try:
         return list(_Reader(yaml, text, make, deepest, most).documents())
     except yaml.MarkedYAMLError as fault:

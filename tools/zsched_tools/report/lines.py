@@ -30,24 +30,17 @@ def write_lines(file, write, progress=None):
         write(_encode(item_of(job, record)) + "\n")
 
 
-def _attempt_lines(item):
-    """The report's lines for an object of type attempt."""
-    if item["end"] is None:
-        yield f"attempt {item['attempt']} {item['begin']}.. running"
-    else:
-        yield f"attempt {item['attempt']} {item['begin']}..{item['end']} {item['outcome']} {item['value']}"
-    if item["out"] is not None:
-        after = "done" if item["next"] is None else f"next {item['next']}"
-        yield f"step {item['attempt']} out {item['out']} {after}"
-
-
 def report_lines(item, is_open):
     """The report's lines for a JSON object. If no job is open, the job's first line is before them."""
     if item["type"] == "total":
         return [f"polls {item['polls']}"]
     first = [] if is_open else [f"job {item['job']} {item['mode']}"]
     if item["type"] == "attempt":
-        return first + list(_attempt_lines(item))
+        ended = "running" if item["end"] is None else f"{item['end']} {item['outcome']} {item['value']}"
+        space = " " if item["end"] is None else ""
+        lines = [*first, f"attempt {item['attempt']} {item['begin']}..{space}{ended}"]
+        after = "done" if item["next"] is None else f"next {item['next']}"
+        return lines + ([] if item["out"] is None else [f"step {item['attempt']} out {item['out']} {after}"])
     if item["type"] == "end":
         result = {"succeeded": f" {item['value']}", "failed": f" {item['value']}", "finished": f" {item['out']}"}
         how = item["ending"]
