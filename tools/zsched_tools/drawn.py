@@ -234,20 +234,16 @@ class Policy:
             refuse(begin, end - begin, "drawn_already", "or_rand")
         if unsteady:
             refuse(begin, end - begin, "depend", "without", text=min(unsteady))
-        ends, word = _ends(found), Piece(found.start(), len(found[0]), found[0], "")
+        # The least and the greatest part of a wait that is drawn.
+        parts = {"full": "0..1", "equal": "1/2..1"}.get(found[1], found[1]).split("..")
+        around = Fraction(found[2] or 0) / 100
+        ends = (1 - around, 1 + around) if found[2] else tuple(map(Fraction, parts))
+        if not 0 <= ends[0] <= ends[1]:
+            refuse(found.start(), len(found[0]), "least_wait", "percent")
+        word = Piece(found.start(), len(found[0]), found[0], "")
         share = floor(100 * ends[0]), ceil(100 * ends[1])
         made = functools.cache(lambda: _jittered(self.zsched or program.find(), inner, begin, ends))
         return word, Piece(begin, end - begin, inner.spelled, lambda *draw: _filled(*made(), *draw), share)
-
-
-def _ends(found):
-    """The least and the greatest part of a wait that a jitter draws."""
-    ends = {"full": "0..1", "equal": "1/2..1"}.get(found[1], found[1]).split("..")
-    around = Fraction(found[2] or 0) / 100
-    low, high = (1 - around, 1 + around) if found[2] else map(Fraction, ends)
-    if not 0 <= low <= high:
-        refuse(found.start(), len(found[0]), "least_wait", "percent")
-    return low, high
 
 
 def _is_balanced(text):

@@ -14,13 +14,11 @@ The first line on standard error is zsched's. If the plan is rejected, these fol
   - the line, cut if it is long
   - what is wrong there, and what to write instead, if that is known
   - the name of the job
-If the plan is accepted, standard output gets 'FILE: no fault'. zsched itself writes
-the report.
+If the plan is accepted, standard output gets 'FILE: no fault'. zsched itself writes the report.
 
-With --all the later faults are shown too: the command mends each fault in a copy and
-runs the copy. A plan that may have more than 1000000 attempts gets a warning. It is
-run with a clock of one moment, on which it has the same faults. A plan whose workers
-take longer than one would gets a warning too."""
+With --all the later faults are shown too: the command mends each fault in a copy and runs the copy. A plan that may
+have more than 1000000 attempts gets a warning. It is run with a clock of one moment, on which it has the same faults. A
+plan whose workers take longer than one would gets a warning too."""
 STATUSES = """exit status:
   0  the plan has no fault
   2  the plan is rejected, an option is wrong, or zsched isn't found

@@ -182,19 +182,6 @@ def _all(given, scenario, zsched):
     return figures
 
 
-def _print(given, scenario, figures):
-    if "-" in (given.svg, given.html):
-        return
-    if given.json:
-        print(to_json(scenario, figures))
-        return
-    head, *rows = words.table(list(table(scenario, figures)), 1)
-    notes = [f"{name}: {it.note()}" for name, it in figures.items() if it.uncertified]
-    for line in [headline(scenario), *policy_lines(figures), "", Paint(given.color, sys.stdout)("strong", head), *rows,
-                 *notes]:
-        print(line)
-
-
 def _exceeded(given, figures):
     if given.max_peak is not None:
         most, span = given.max_peak
@@ -234,7 +221,13 @@ def work(given):
     except (Unsettled, Uncertified) as failed:
         print(f"{TOOL}: {failed}", file=sys.stderr)
         return command.NO
-    _print(given, scenario, figures)
+    if given.json and "-" not in (given.svg, given.html):
+        print(to_json(scenario, figures))
+    elif "-" not in (given.svg, given.html):
+        head, *rows = words.table(list(table(scenario, figures)), 1)
+        notes = [f"{name}: {it.note()}" for name, it in figures.items() if it.uncertified]
+        print(headline(scenario), *policy_lines(figures), "", Paint(given.color, sys.stdout)("strong", head), *rows,
+              *notes, sep="\n")
     exceeded = [f"{TOOL}: policy {name}: {words}" for name, it in figures.items() for words in _exceeded(given, it)]
     sys.stdout.flush()
     for line in exceeded:

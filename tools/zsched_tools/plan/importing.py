@@ -39,28 +39,26 @@ HOUR = 3_600_000
 _HORIZON = re.compile(r'("horizon":)([0-9]{1,15})(?![0-9.eE])')
 ABOUT = """Converts FILE to a plan, and writes it to standard output.
 
-A log (.csv, .tsv, .jsonl, .ndjson; .json for a list, or spans of OpenTelemetry or Jaeger) has an
-attempt a row, in any order: its request, its begin, its length or end, and its status. Columns are found by their
-names, as request_id, timestamp, duration_ms, status; standard error says how each is read, and
-docs/FORMATS.md has all rules. Without a length an attempt lasts until the next of its request.
+A log (.csv, .tsv, .jsonl, .ndjson; .json for a list, or spans of OpenTelemetry or Jaeger) has an attempt a row, in any
+order: its request, its begin, its length or end, and its status. Columns are found by their names, as request_id,
+timestamp, duration_ms, status; standard error says how each is read, and docs/FORMATS.md has all rules. Without a
+length an attempt lasts until the next of its request.
 
-Each request becomes a job, which starts at its first attempt. The plan says what the policy
---schedule would have done: an attempt that begins within 50 ms of one of its request's own ends as
-that one did. Another ends as the service did at its moment, which all attempts of the log say:
-windows in which it failed, and others in which it served. Errors of 400 to 499, without 408, 425
-and 429, are those of the request. Standard error says how sure that is: the longest gap without an
-attempt. --windows makes a scenario for zsched-outage from the windows and the requests' starts.
---by-attempt assumes that a request's k-th attempt ends as the k-th in the log, whenever it begins.
+Each request becomes a job, which starts at its first attempt. The plan says what the policy --schedule would have done:
+an attempt that begins within 50 ms of one of its request's own ends as that one did. Another ends as the service did at
+its moment, which all attempts of the log say: windows in which it failed, and others in which it served. Errors of 400
+to 499, without 408, 425 and 429, are those of the request. Standard error says how sure that is: the longest gap
+without an attempt. --windows makes a scenario for zsched-outage from the windows and the requests' starts. --by-attempt
+assumes that a request's k-th attempt ends as the k-th in the log, whenever it begins.
 
-A policy file (.yaml, .yml, .toml) has the keys of a plan. Durations may have units, as 1h or 40ms,
-and a script may be a text, as '40 err 503 x3, 35 ok 200'. 'mode', 'start' and 'script' next to
-'jobs' are the defaults of all jobs. 'policies' is a table of names and schedules: each becomes a
-job.
+A policy file (.yaml, .yml, .toml) has the keys of a plan. Durations may have units, as 1h or 40ms, and a script may be
+a text, as '40 err 503 x3, 35 ok 200'. 'mode', 'start' and 'script' next to 'jobs' are the defaults of all jobs.
+'policies' is a table of names and schedules: each becomes a job.
 
-A name that a plan doesn't allow is changed. Lengths of time are rounded to whole milliseconds, at
-least 1. Standard error reports both. YAML needs PyYAML (Debian: python3-yaml)."""
-EPILOG = """Exit status: 0; 2 if FILE can't become a plan, with file, line and column on standard
-error, or if there is no program; 3 if reading, writing or the program fails."""
+A name that a plan doesn't allow is changed. Lengths of time are rounded to whole milliseconds, at least 1. Standard
+error reports both. YAML needs PyYAML (Debian: python3-yaml)."""
+EPILOG = """Exit status: 0; 2 if FILE can't become a plan, with file, line and column on standard error, or if there is
+no program; 3 if reading, writing or the program fails."""
 # An attempt that begins this close to one of its request's own ends as that one did.
 NEAR = 50
 MOST_SHOWN = 5

@@ -179,17 +179,14 @@ class Handler(http.server.BaseHTTPRequestHandler):
             self.give(refusal[0], "text/plain; charset=utf-8", f"zsched-play: {refusal[1]}\n".encode())
             self.drop_body()
         elif self.command == "POST":
-            self.give_answer()
+            plan, it = self.rfile.read(int(self.headers["Content-Length"])), self.server
+            asked = urllib.parse.unquote(self.path.partition("?")[2])
+            found = answer(it.zsched, plan, it.seconds, it.bounds, asked)
+            self.give(200, "application/json", json.dumps(found).encode())
         else:
             self.give(200, "text/html; charset=utf-8", page(self.server.title).encode())
 
     do_HEAD = do_POST = do_PUT = do_DELETE = do_PATCH = do_OPTIONS = do_TRACE = do_CONNECT = do_GET
-
-    def give_answer(self):
-        plan = self.rfile.read(int(self.headers["Content-Length"]))
-        asked = urllib.parse.unquote(self.path.partition("?")[2])
-        found = answer(self.server.zsched, plan, self.server.seconds, self.server.bounds, asked)
-        self.give(200, "application/json", json.dumps(found).encode())
 
     def give(self, status, kind, body):
         self.send_response(status)

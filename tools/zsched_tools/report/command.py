@@ -90,14 +90,10 @@ def _load(given):
         _write(f"{line}\n")
 
 
-# The orders of a picture's rows.
-_ROW_ORDERS = {"end": lambda row: row.ending.at, "name": lambda row: row.job.name,
-               "attempts": lambda row: -len(row.attempts)}
-
-
 def _draw(given, is_page):
     crowd = _with_source(given, lambda file, progress: crowd_of(file, given.job, progress))
-    crowd.rows.sort(key=_ROW_ORDERS.get(given.sort, lambda _: 0))
+    if given.sort:
+        crowd.rows.sort(key=lambda row: SORTS[given.sort](row.job, len(row.attempts), row.ending))
     view = View(given.first, given.last, given.log)
     if not is_page:
         pieces = (f"{line}\n" for line in draw_crowd(crowd, given.title, view))
@@ -135,7 +131,7 @@ def _add_load(one):
 def _add_picture(one):
     one.add_argument("--title", default="", help="the text above the picture")
     one.add_argument("--job", metavar="NAME", action="append", default=[], help="draw this job; may be repeated")
-    one.add_argument("--sort", choices=list(_ROW_ORDERS), help="the order of the rows: by the moment of the end, by "
+    one.add_argument("--sort", choices=list(SORTS), help="the order of the rows: by the moment of the end, by "
                      "name, or the most attempts first; else that of the report")
     one.add_argument("--from", dest="first", metavar="TIME", type=duration_argument,
                      help="the first moment drawn, as 1.5s")

@@ -18,9 +18,9 @@ class Options(NamedTuple):
     within: int | None = None
 
 
-# The keys by which the table is sorted, from a job, its attempts and its ending.
-SORTS = {"end": lambda job, attempts, ending: ending.at, "name": lambda job, attempts, ending: job.name,
-         "attempts": lambda job, attempts, ending: -attempts.count}
+# The keys by which jobs are sorted: of a job, the number of its attempts and its ending.
+SORTS = {"end": lambda job, count, ending: ending.at, "name": lambda job, count, ending: job.name,
+         "attempts": lambda job, count, ending: -count}
 
 
 class Attempts:
@@ -86,7 +86,7 @@ class Summary:
             self.times.append(time)
             self.well += self.options.within is not None and ending.how in WELL and time <= self.options.within
         if not self.options.one_line:
-            key = SORTS[self.options.sort](job, attempts, ending) if self.options.sort else 0
+            key = SORTS[self.options.sort](job, attempts.count, ending) if self.options.sort else 0
             self.rows.append((key, [
                 job.name, job.mode, ending_text(ending.how, ending.result()), duration(ending.at), str(attempts.count),
                 str(attempts.outcomes["ok"]), str(attempts.outcomes["err"]), duration(attempts.busy),
