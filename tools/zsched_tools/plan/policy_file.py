@@ -58,7 +58,7 @@ def read_toml(text):
         raise FaultAt(Cause(min(at, len(text)), 1, f"not TOML: {what}")) from None
     except RecursionError:
         raise FaultAt(Cause(0, 0, NESTED)) from None
-    return _Toml(text, _toml_places(text)).value(tree, (), 0)
+    return _value_of(text, _toml_places(text), tree, (), 0)
 
 
 def _header_path(names, is_item, counts):
@@ -91,31 +91,22 @@ def _toml_places(text):
     return found
 
 
-class _Toml:
-    """Values of a TOML document, with the places that were found."""
-
-    def __init__(self, text, places):
-        self.text, self.places = text, places
-
-    def value(self, data, path, outer):
-        """The value at a path, whose parent has the place `outer`."""
-        at = self.places.get(path, (outer, outer))[1]
-        if len(path) == DEEPEST:
-            raise FaultAt(Cause(at, 1, f"this is nested deeper than {DEEPEST}"))
-        if isinstance(data, dict):
-            return Value({self._key(name, path, at): self.value(item, path + (name,), at)
-                          for name, item in data.items()}, at)
-        if isinstance(data, list):
-            return Value([self.value(item, path + (number,), at) for number, item in enumerate(data)], at)
-        if isinstance(data, str):
-            return _scalar(data, at, self.text) if path in self.places else Value(data, at)
-        if isinstance(data, float):
-            if not _NUMBER.fullmatch(repr(data)):
-                raise FaultAt(Cause(at, 1, f"{data} is not a number of a plan"))
-            return Value(Raw(repr(data)), at)
-        if not isinstance(data, (bool, int)):
-            raise FaultAt(Cause(at, 1, "a plan has no dates", "write milliseconds"))
-        return Value(data, at)
-
-    def _key(self, name, path, outer):
-        return key(name, self.places.get(path + (name,), (outer, outer))[0])
+def _value_of(text, places, data, path, outer):
+    """The value of a TOML document at a path, whose parent has the place `outer`."""
+    at = places.get(path, (outer, outer))[1]
+    if len(path) == DEEPEST:
+        raise FaultAt(Cause(at, 1, f"this is nested deeper than {DEEPEST}"))
+    if isinstance(data, dict):
+        return Value({key(name, places.get((*path, name), (at, at))[0]):
+                      _value_of(text, places, item, (*path, name), at) for name, item in data.items()}, at)
+    if isinstance(data, list):
+        return Value([_value_of(text, places, item, (*path, number), at) for number, item in enumerate(data)], at)
+    if isinstance(data, str):
+        return _scalar(data, at, text) if path in places else Value(data, at)
+    if isinstance(data, float):
+        if not _NUMBER.fullmatch(repr(data)):
+            raise FaultAt(Cause(at, 1, f"{data} is not a number of a plan"))
+        return Value(Raw(repr(data)), at)
+    if not isinstance(data, (bool, int)):
+        raise FaultAt(Cause(at, 1, "a plan has no dates", "write milliseconds"))
+    return Value(data, at)

@@ -103,46 +103,36 @@ def script(value, notes):
     return value._replace(data=entries)
 
 
-class Policies:
-    """The jobs of a file. `defaults` has the values of keys that a job lacks."""
+def _job(value, defaults, names):
+    """A job with the defaults, whole durations and a name that a plan allows."""
+    if not isinstance(value.data, dict):
+        return value
+    given = {**value.data, **{name: it for name, it in defaults.items() if name not in value.data}}
+    if "start" in given:
+        given["start"] = duration(given["start"])
+    if "script" in given:
+        given["script"] = script(given["script"], names.notes)
+    name = given.get("name")
+    if name is not None and type(name.data) is str and not is_allowed(name.data):
+        given["name"] = Value(names.clean(name.data, name.at), name.at)
+    order = {name: number for number, name in enumerate(JOB_KEYS)}
+    return value._replace(data=dict(sorted(given.items(), key=lambda item: order.get(item[0], len(order)))))
 
-    def __init__(self, defaults, notes):
-        self.defaults, self.notes = defaults, notes
-        self.names = Names(notes)
 
-    def job(self, value):
-        """A job with the defaults, whole durations and a name that a plan allows."""
-        if not isinstance(value.data, dict):
-            return value
-        given = dict(value.data)
-        for name, default in self.defaults.items():
-            if name not in given:
-                given[name] = default
-        if "start" in given:
-            given["start"] = duration(given["start"])
-        if "script" in given:
-            given["script"] = script(given["script"], self.notes)
-        name = given.get("name")
-        if name is not None and type(name.data) is str and not is_allowed(name.data):
-            given["name"] = Value(self.names.clean(name.data, name.at), name.at)
-        order = {name: number for number, name in enumerate(JOB_KEYS)}
-        items = sorted(given.items(), key=lambda item: order.get(item[0], len(order)))
-        return value._replace(data=dict(items))
-
-    def jobs(self, listed):
-        """The jobs of a list. No two may have one name."""
-        places = {}
-        for job in listed:
-            name = job.data.get("name") if isinstance(job.data, dict) else None
-            if name is None or type(name.data) is not str:
-                continue
-            if name.data in places:
-                what = f'a job before it is named "{shown(name.data)}" too'
-                raise FaultAt(Cause(name.at, 1, what, "write another name"))
-            places[name.data] = name.at
-            if is_allowed(name.data):
-                self.names.take(name.data)
-        return [self.job(job) for job in listed]
+def _jobs(listed, defaults, notes):
+    """The jobs of a list, of which no two may have one name. `defaults` has the values of keys that a job lacks."""
+    names, found = Names(notes), set()
+    for job in listed:
+        name = job.data.get("name") if isinstance(job.data, dict) else None
+        if name is None or type(name.data) is not str:
+            continue
+        if name.data in found:
+            what = f'a job before it is named "{shown(name.data)}" too'
+            raise FaultAt(Cause(name.at, 1, what, "write another name"))
+        found.add(name.data)
+        if is_allowed(name.data):
+            names.take(name.data)
+    return [_job(job, defaults, names) for job in listed]
 
 
 def _policy_jobs(policies):
@@ -166,14 +156,10 @@ def plan_of(root, until, notes):
     given = {name: value for name, value in root.data.items() if name not in DEFAULTS}
     defaults = {key("mode", root.at): Value("retry", root.at)}
     defaults.update((name, value) for name, value in root.data.items() if name in DEFAULTS)
-    has_policies = "policies" in given
-    listed = _policy_jobs(given.pop("policies")) if has_policies else []
-    jobs = given.pop("jobs", None)
+    listed = _policy_jobs(given["policies"]) if "policies" in given else []
+    jobs = given.pop("jobs", Value([], root.at) if given.pop("policies", None) else None)
     if jobs is not None and isinstance(jobs.data, list):
-        listed += jobs.data
-        jobs = jobs._replace(data=Policies(defaults, notes).jobs(listed))
-    elif jobs is None and has_policies:
-        jobs = Value(Policies(defaults, notes).jobs(listed), root.at)
+        jobs = jobs._replace(data=_jobs(listed + jobs.data, defaults, notes))
     if "horizon" in given:
         given["horizon"] = duration(given["horizon"])
     elif "ticks" not in given:
