@@ -180,7 +180,12 @@ def no_value(reading, at):
     if mark in "]},:;=":
         return _missing(reading, at, mark, "value")
     if mark in "+-." or mark.isdigit():
-        return _bad_number(text, at)
+        source = re.compile(r"[+-]?[0-9A-Za-z_.]*(?:(?<=[eE])[+-][0-9]*)?").match(text, at)[0] or text[at]
+        is_short = re.fullmatch(r"-?\.[0-9]+", source)
+        return choose(at, (source[0] == "+", len(source), "a number has no plus before it",
+                           f"write {shown(source[1:])}"),
+                      (is_short, len(source), "a number begins with a digit", "a plan has only whole numbers"),
+                      (True, len(source), "this is not a number", "write only digits"))
     if mark in _QUOTES:
         return Cause(at, 1, "these aren't JSON's quotes", 'write "')
     word = _WORD.match(text, at)
@@ -209,13 +214,6 @@ def _missing(reading, at, mark, part):
                    f"the {{ of line {line_of(text, reading.open[-1])} is still open"),
                   (is_key or last == ":", 1, f"a {part} is missing before this {mark}"),
                   (True, 1, f"no value begins with {mark}"))
-
-
-def _bad_number(text, at):
-    source = re.compile(r"[+-]?[0-9A-Za-z_.]*(?:(?<=[eE])[+-][0-9]*)?").match(text, at)[0] or text[at]
-    return choose(at, (source[0] == "+", len(source), "a number has no plus before it", f"write {shown(source[1:])}"),
-                  (re.fullmatch(r"-?\.[0-9]+", source), len(source), "a number begins with a digit",
-                   "a plan has only whole numbers"), (True, len(source), "this is not a number", "write only digits"))
 
 
 def _bare_word(text, at, word):

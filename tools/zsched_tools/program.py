@@ -12,7 +12,7 @@ import tempfile
 import time
 
 from zsched_tools.command import Refused, naming, note
-from zsched_tools.progress import Waiting
+from zsched_tools.progress import waiting
 
 # The limits of a plan: its bytes, its jobs, the entries of a script, of which the last one repeats, and its last
 # moment.
@@ -120,7 +120,7 @@ def _errors_of(running, written, seconds):
     """Waits for the end of a program, and returns its standard error. A program that writes something else than a
     report or JSON isn't waited for."""
     program, end, step = running.args[0], math.inf if seconds is None else time.monotonic() + seconds, 0.05
-    with Waiting(os.path.basename(program)) as waiting:
+    with contextlib.closing(waiting(os.path.basename(program))) as progress:
         while True:
             try:
                 return running.communicate(timeout=max(0, min(step, end - time.monotonic())))[1]
@@ -129,7 +129,7 @@ def _errors_of(running, written, seconds):
                     raise ChildProcessError(f"{program} wrote no report") from None
                 if time.monotonic() >= end:
                     raise
-                waiting.add(step)
+                progress.add(step)
                 step = min(1, 2 * step)
 
 

@@ -43,18 +43,11 @@ class Progress:
             self.is_shown = False
 
 
-class Waiting(Progress):
-    """Shows for how many seconds a program runs, unless a Now is open."""
-
-    def __init__(self, name):
-        super().__init__(os.path.basename(sys.argv[0]), lambda done: f"{name} runs, {done:.0f} s")
-        self.next = self.next if not Now.opened else float("inf")
-
-    def __enter__(self):
-        return self
-
-    def __exit__(self, *_):
-        self.close()
+def waiting(name):
+    """Counts the seconds for which a program runs, unless a Now is open."""
+    found = Progress(os.path.basename(sys.argv[0]), lambda done: f"{name} runs, {done:.0f} s")
+    found.next = found.next if not Now.opened else float("inf")
+    return found
 
 
 class Now:
