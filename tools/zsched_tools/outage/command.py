@@ -221,9 +221,10 @@ def work(given):
     except (Unsettled, Uncertified) as failed:
         print(f"{TOOL}: {failed}", file=sys.stderr)
         return command.NO
-    if given.json and "-" not in (given.svg, given.html):
+    is_shown = "-" not in (given.svg, given.html)
+    if is_shown and given.json:
         print(to_json(scenario, figures))
-    elif "-" not in (given.svg, given.html):
+    elif is_shown:
         head, *rows = words.table(list(table(scenario, figures)), 1)
         notes = [f"{name}: {it.note()}" for name, it in figures.items() if it.uncertified]
         print(headline(scenario), *policy_lines(figures), "", Paint(given.color, sys.stdout)("strong", head), *rows,
