@@ -108,9 +108,9 @@ typedef struct zs_run_bounds {
     uint64_t least;           /* the schedule isn't done before this attempt, 1 or more */
     uint64_t has_most;        /* 1 if `most` is a bound, else 0: there may be any number of attempts */
     uint64_t most;            /* no attempt after this one is made; it is `seen` */
-    uint64_t longest_ms;      /* the longest wait after the first `seen` attempts */
+    uint64_t longest_ms;      /* the longest wait after the first `seen` attempts, which take 1 ms or more */
     uint64_t has_total;       /* 1 if total_ms is a bound, else 0 */
-    uint64_t total_ms;        /* all waits of a run together, at most */
+    uint64_t total_ms;        /* all waits of a run together, at most; after a shorter attempt a wait may be 1 ms longer */
     uint64_t has_longest_run; /* 1 if longest_run_ms is a bound, else 0 */
     uint64_t longest_run_ms;  /* each attempt ends at most this long after the begin of the first */
 } zs_run_bounds;

@@ -637,7 +637,7 @@ def test_the_service_of_the_document_goes_on_after_a_restart(tmp_path, monkeypat
         raise urllib.error.HTTPError("", code, "", {}, None)
     monkeypatch.setattr(time, "time_ns", lambda: round(clock.seconds * 1e9))
     monkeypatch.setattr(time, "sleep", sleep)
-    assert len(service.splitlines()) <= 15
+    assert len(service.splitlines()) <= 17
     for end in [KeyboardInterrupt, None, None]:
         found = {"POLICY": "(spaced(1000) && recurs(9)).whileInput(= 503)", "urllib": urllib}
         exec(service, found)
@@ -645,6 +645,27 @@ def test_the_service_of_the_document_goes_on_after_a_restart(tmp_path, monkeypat
             assert found["call"](job, tmp_path / "state") is None
     # The policy doesn't go on after 404, and what gave up isn't tried again.
     assert waits == wanted and next(codes) == 503
+
+
+def test_a_crash_while_the_document_s_service_writes_its_state_loses_nothing(tmp_path, monkeypatch):
+    found, begins, writes = {"POLICY": "(spaced(10) && recurs(4))", "urllib": urllib}, [], []
+    write = pathlib.Path.write_text
+    exec(python_of_document()[1], found)
+
+    def cut(path, text):
+        writes.append(text)
+        write(path, text[:len(text) // 2] if len(writes) == 3 else text)
+        if len(writes) == 3:
+            raise KeyboardInterrupt
+
+    def job():
+        begins.append(time.monotonic())
+        raise urllib.error.HTTPError("", 503, "", {}, None)
+    monkeypatch.setattr(pathlib.Path, "write_text", cut)
+    with pytest.raises(KeyboardInterrupt):
+        found["call"](job, tmp_path / "state")
+    # The attempt whose state was lost is made again.
+    assert found["call"](job, tmp_path / "state") is None and len(begins) == 3 + 3
 
 
 def test_the_check_of_the_document_ends_a_service_whose_policy_may_go_on(zsched):

@@ -71,9 +71,10 @@ func Permanent(err error) error {
 // last error is returned in an *Ended, which is the context's error too.
 //
 // Each call begins the schedule anew, so goroutines may share it. Plan returns when the next attempt
-// begins, by the monotonic clock, so its bounds hold of each call; a machine may wake late. After an
-// attempt that failed come Permanent, the context, inputOf, RetryAfter, the budget, Plan, Notify and
-// the sleep, in this order.
+// begins, by the monotonic clock, so its bounds hold of each call; a machine may wake late, and a wait
+// after an attempt of less than 1 millisecond may be 1 millisecond longer. After an attempt that failed
+// come Permanent, the context, inputOf, RetryAfter, the budget, Plan, Notify and the sleep, in this
+// order.
 func Retry(ctx context.Context, schedule *Schedule, inputOf func(error) uint64,
 	attempt func(context.Context) error, more ...Option) error {
 	if attempt == nil {
