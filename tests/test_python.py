@@ -8,6 +8,7 @@ import functools
 import http.server
 import math
 import os
+import pathlib
 import pickle
 import re
 import sys
@@ -100,7 +101,7 @@ def test_a_fault_has_its_text_number_and_place(zsched):
         assert (fault.text, fault.number, fault.at, str(fault)) == ("recurs(1) && recurs(2)", 11, 10,
                                                                     "no term at byte 10")
     for call in [zsched.Schedule, zsched.retrying]:
-        with pytest.raises(zsched.ScheduleFault, match="collectAll") as caught:
+        with pytest.raises(zsched.ScheduleFault, match="list") as caught:
             call("forever.collectAll")
         assert (caught.value.text, caught.value.number, caught.value.at) == ("forever.collectAll", 6, 0)
 

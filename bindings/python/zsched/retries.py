@@ -146,7 +146,9 @@ class Run:
 
     def rest(self) -> float:
         """Returns the seconds until the next attempt may begin, at most LONGEST."""
-        return min((self.begin - self.now()) / 1e9, LONGEST)
+        self.now()
+        # By floats, as the clock counts, so that no rest is too short for it.
+        return min(self.start + self.begin / 1e9 - self.by.clock(), LONGEST)
 
     def sleep(self) -> None:
         """Sleeps until the next attempt may begin."""
