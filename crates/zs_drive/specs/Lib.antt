@@ -8,7 +8,6 @@ pub mod Tasks
 pub mod DriverRules
 pub mod DriverLaws
 -- What the code stores. Only private contracts, views and invariants name these.
-pub mod ScheduleCode
 pub mod Recorded
 pub mod Progress
 pub mod Turns

@@ -29,7 +29,7 @@ pub struct Task {
 
 impl Model for Task {
     ghost use Rattle.zs_drive.specs.Tasks.{TaskValue};
-    ghost use Rattle.zs_drive.specs.ScheduleCode.{schedule_code};
+    ghost use Rattle.zs_term.specs.ScheduleCode.{schedule_code};
     ghost use Rattle.std.specs.Coded.{codes};
 
     ghost Value = { TaskValue };

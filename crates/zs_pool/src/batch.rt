@@ -14,7 +14,7 @@ pub struct Batch {
 
 impl Model for Batch {
     ghost use Rattle.zs_pool.specs.Batches.{BatchValue};
-    ghost use Rattle.zs_drive.specs.ScheduleCode.{schedule_code};
+    ghost use Rattle.zs_term.specs.ScheduleCode.{schedule_code};
     ghost use Rattle.std.specs.Coded.{codes};
 
     ghost Value = { BatchValue };

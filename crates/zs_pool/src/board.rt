@@ -62,7 +62,7 @@ pub struct BoardPass {
 impl Model for BoardPass {
     ghost use Rattle.std.specs.Prelude.{◌≡◌, [], length};
     ghost use Rattle.zs_pool.specs.Board.{Claimer, claimer, IsFit};
-    ghost use Rattle.zs_drive.specs.ScheduleCode.{schedule_code};
+    ghost use Rattle.zs_term.specs.ScheduleCode.{schedule_code};
     ghost use Rattle.std.specs.Coded.{codes};
 
     ghost Value = { Claimer };

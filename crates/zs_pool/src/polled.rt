@@ -21,7 +21,7 @@ pub struct Polled {
 
 impl Model for Polled {
     ghost use Rattle.zs_pool.specs.Messages.{PolledValue, AllSaw};
-    ghost use Rattle.zs_drive.specs.ScheduleCode.{schedule_code};
+    ghost use Rattle.zs_term.specs.ScheduleCode.{schedule_code};
     ghost use Rattle.std.specs.Coded.{codes};
 
     ghost Value = { PolledValue };

@@ -47,7 +47,7 @@ pub struct ShelfPass {
 impl Model for ShelfPass {
     ghost use Rattle.std.specs.Prelude.{◌≡◌, ◌<◌, []};
     ghost use Rattle.zs_pool.specs.Shelf.{Shelver, shelver};
-    ghost use Rattle.zs_drive.specs.ScheduleCode.{schedule_code};
+    ghost use Rattle.zs_term.specs.ScheduleCode.{schedule_code};
     ghost use Rattle.std.specs.Coded.{codes};
 
     ghost Value = { Shelver };

@@ -17,6 +17,7 @@ pub mod OutputText
 pub mod Machine
 pub mod Verdict
 -- What the code stores. Only private contracts name these.
+pub mod ScheduleCode
 pub mod Scan
 pub mod Parts
 pub mod Shape
