@@ -129,7 +129,7 @@ PRINTED = re.compile(r"^(?:\||- Job ).*$", re.M)
 CODE = tuple(sorted(it for end in ("rt", "antt") for it in TOP.glob(f"crates/*/[sp]*/**/*.{end}")))
 # How a line of prose begins in a file of each kind.
 BEGINS = {".md": "", ".rt": r"\s*//[/!]? ?", ".antt": r"\s*-- ?"}
-WIDTH, MOST_WORDS = 100, 28000
+WIDTH, MOST_WORDS = 100, 26500
 # What has another meaning here than elsewhere, what to write instead, and how often it is right in pages, comments.
 WORDS = [line.split("\t") for line in (TOP / "tests" / "words.tsv").read_text().splitlines()]
 
