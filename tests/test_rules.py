@@ -80,15 +80,10 @@ def limits_again(files):
                    for named, other, is_limit, at in found)]
 
 
-# Constants that definitions may name: long texts, and words of a format that nothing outside defines.
-TEXTS = {"HELP", "VERSION", "PROGRAM_VERSION", "CHECK_START", "CHECK_FACTOR"}
-
-
 def constants_named(files):
-    """Constants of the code that a definition or a contract names, but for texts."""
-    return [f"{place(path, text, it.start())} {name}" for path, text in files.items()
-            for it in re.finditer(r"\buse .*\.TheConstants(?:\.\{(.*?)\})?", text)
-            for name in (it[1] or "all").split(", ") if name not in TEXTS]
+    """Constants of the code that a definition or a contract names."""
+    return [f"{place(path, text, it.start())} {it[0]}" for path, text in files.items()
+            for it in re.finditer(r"\buse .*\.TheConstants.*", text)]
 
 
 # Each rule: what breaks it in some files, and a text that does.

@@ -1,5 +1,5 @@
 -- The request that the words of a command line are.
-use Rattle.std.specs.Prelude.{◌≡◌, ℕ, ◌+◌, ◌*◌, ◌-◌, List, [], ◌∷◌, take, drop, codes}
+use Rattle.std.specs.Prelude.{◌≡◌, ℕ, ◌+◌, ◌*◌, ◌-◌, List, [], ◌∷◌, ◌++◌, take, drop, codes}
 use Rattle.std.specs.Prelude.{bytes_eq, nat_le, nat_lt, ◌==◌, ◌&&◌, Bool, true, false}
 use Rattle.std.specs.Prelude.{if◌then◌else◌, Option, Some, None, option_and_then, Result, Ok, Err}
 use Rattle.zs_term.specs.Saturating.{max_moment}
@@ -15,7 +15,6 @@ use Rattle.zs_bounds_lines.specs.declared.fault.OptionFault.{OptionFault}
 use Rattle.zs_bounds_lines.specs.declared.fault.OptionFault.TheVariants.{Unknown, Steps, Attempt}
 use Rattle.zs_bounds_lines.specs.declared.fault.OptionFault.TheVariants.{Wait, Late, Asked}
 use Rattle.zs_bounds_lines.specs.declared.options.Options.{Options}
-use Rattle.zs_bounds_lines.specs.declared.program.TheConstants.{HELP, VERSION}
 use Rattle.zs_bounds_lines.specs.declared.words.Request.{Request}
 use Rattle.zs_bounds_lines.specs.declared.words.Request.TheVariants.{Help, Version, Run}
 
@@ -159,11 +158,33 @@ request_from options (name ∷ []) =
 request_from options (name ∷ (value ∷ words)) =
     unless_alone name (and_then (with_option name value options) (λ new. request_from new words))
 
+-- what `--help` prints
+unfoldable pub help_text : List ℕ
+help_text =
+    codes "usage: zsched-bounds [--attempt [LEAST..]MOST] [--wait LEAST..MOST%]\n" ++ (
+    codes "                     [--late TIME|any] [--asked TIME] [--steps N] < POLICIES\n" ++ (
+    codes "\n" ++ (
+    codes "Reads a policy a line, and writes what is proved of each as a line of JSON.\n" ++ (
+    codes "Empty lines, and lines that begin with #, are passed over.\n" ++ (
+    codes "\n" ++ (
+    codes "  --attempt 20ms..5s  how long an attempt takes; 5s is at most 5 s (ms, s, m, h)\n" ++ (
+    codes "  --wait 80..120%     how long waits are, of those of the policy (100..100%)\n" ++ (
+    codes "  --late 50ms         how much later an attempt may begin; any: by any time (0ms)\n" ++ (
+    codes "  --asked 30s         the longest Retry-After that is honoured (0ms)\n" ++ (
+    codes "  --steps N           looks at no more than N steps of each policy (20000, and of\n" ++ (
+    codes "                      more than 60 nodes 1200000 divided by their number)\n" ++ (
+    codes "  --help              prints this\n" ++ (
+    codes "  --version           prints the version\n")))))))))))))
+
+-- what `--version` prints
+unfoldable pub version_text : List ℕ
+version_text = codes "zsched-bounds 0.3.0\n"
+
 -- How the program ends, by its request.
 abbrev pub ProgramEnds : Result Request OptionFault
     → Result (Unit {0}) BoundsFault → Reading → Writing → Type 0 → Type 0
-ProgramEnds (Ok Help) result r w Untouched = WroteText (λ sent. Write) HELP.now result w
-ProgramEnds (Ok Version) result r w Untouched = WroteText (λ sent. Write) VERSION.now result w
+ProgramEnds (Ok Help) result r w Untouched = WroteText (λ sent. Write) help_text result w
+ProgramEnds (Ok Version) result r w Untouched = WroteText (λ sent. Write) version_text result w
 ProgramEnds (Ok (Run options)) result r w Untouched = Ends options result r w Untouched
 ProgramEnds (Err fault) result r w Untouched = (result ≡ Err (Words fault)) × Untouched
 

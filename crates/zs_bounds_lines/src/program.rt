@@ -2,7 +2,7 @@
 ghost use Rattle.std.specs.Prelude.{◌≡◌, false, map, string_bytes};
 ghost use Rattle.zs_lines.specs.Streams.{ByWriter, reading};
 ghost use Rattle.zs_bounds_lines.specs.Words.{WordsEnd, reads_lines};
-ghost use Rattle.zs_bounds_lines.specs.Words.{request_from, usual_options};
+ghost use Rattle.zs_bounds_lines.specs.Words.{request_from, usual_options, help_text, version_text};
 
 use crate::fault::{BoundsFault, OptionFault};
 use crate::options::Options;
@@ -12,9 +12,11 @@ use std::alloc::Global;
 use zs_bounds::Driver;
 use zs_run::{Drain, Source, write_all};
 
-const VERSION: &str = "zsched-bounds 0.3.0\n";
-
-const HELP: &str = "usage: zsched-bounds [--attempt [LEAST..]MOST] [--wait LEAST..MOST%]
+// What `--help` prints.
+fn help() -> &'static str
+    ensures text { result.now ≡ help_text }
+{
+    "usage: zsched-bounds [--attempt [LEAST..]MOST] [--wait LEAST..MOST%]
                      [--late TIME|any] [--asked TIME] [--steps N] < POLICIES
 
 Reads a policy a line, and writes what is proved of each as a line of JSON.
@@ -28,7 +30,15 @@ Empty lines, and lines that begin with #, are passed over.
                       more than 60 nodes 1200000 divided by their number)
   --help              prints this
   --version           prints the version
-";
+"
+}
+
+// What `--version` prints.
+fn version() -> &'static str
+    ensures text { result.now ≡ version_text }
+{
+    "zsched-bounds 0.3.0\n"
+}
 
 // The request of the words after the program's name.
 fn request_of(words: &[String]) -> Result<Request, OptionFault>
@@ -65,8 +75,8 @@ pub fn run_words<R: Source, W: Drain>(
 {
     let text = match request_of(words) {
         Ok(Request::Run(options)) => return run_bounds(alloc, options, reader, writer),
-        Ok(Request::Help) => HELP,
-        Ok(Request::Version) => VERSION,
+        Ok(Request::Help) => help(),
+        Ok(Request::Version) => version(),
         Err(fault) => return Err(BoundsFault::Words(fault)),
     };
     write_all(writer, text.as_bytes()).map_err(|_| BoundsFault::Write)

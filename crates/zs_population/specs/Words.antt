@@ -1,6 +1,6 @@
 -- The request that the words of a command line are, and how the program ends by it.
-use Rattle.std.specs.Prelude.{◌≡◌, ℕ, ◌-◌, List, [], ◌∷◌, map, drop, codes, String, string_bytes, ⊤}
-use Rattle.std.specs.Prelude.{bytes_eq, nat_le, ◌==◌, ◌&&◌, true}
+use Rattle.std.specs.Prelude.{◌≡◌, ℕ, ◌-◌, List, [], ◌∷◌, ◌++◌, map, drop, codes, String}
+use Rattle.std.specs.Prelude.{string_bytes, ⊤, bytes_eq, nat_le, ◌==◌, ◌&&◌, true}
 use Rattle.std.specs.Prelude.{if◌then◌else◌, Option, Some, None, option_and_then, Result, Ok, Err}
 use Rattle.std.specs.Global.{Global}
 use Rattle.zs_run.specs.Headline.{Reading, Writing}
@@ -14,7 +14,6 @@ use Rattle.zs_population.specs.declared.fault.OptionFault.{OptionFault}
 use Rattle.zs_population.specs.declared.fault.OptionFault.TheVariants.{Unknown, Jobs, Check}
 use Rattle.zs_population.specs.declared.fault.PopulationFault.{PopulationFault}
 use Rattle.zs_population.specs.declared.fault.PopulationFault.TheVariants.{Write, Words}
-use Rattle.zs_population.specs.declared.program.TheConstants.{HELP, VERSION}
 use Rattle.zs_population.specs.declared.words.Request.{Request}
 use Rattle.zs_population.specs.declared.words.Request.TheVariants.{Help, Version, Run, Join}
 
@@ -74,11 +73,29 @@ FitsRequest Version = ⊤
 FitsRequest (Run range) = FitsPopulation range
 FitsRequest Join = ⊤
 
+-- what `--help` prints
+unfoldable pub help_text : List ℕ
+help_text =
+    codes "usage: zsched-population [--jobs A..B | --check REPORT..] < POPULATION\n" ++ (
+    codes "\n" ++ (
+    codes "Reads JSON lines: first a plan without jobs, then a job a line.\n" ++ (
+    codes "Writes the report of all jobs, as of one plan.\n" ++ (
+    codes "\n" ++ (
+    codes "  --jobs A..B       runs jobs A to B - 1 alone, counted from 0. Ends with a line\n" ++ (
+    codes "                    that says of which jobs and which population the report is\n" ++ (
+    codes "  --check REPORT..  joins such reports, in order, to the report of all jobs\n" ++ (
+    codes "  --help            prints this\n" ++ (
+    codes "  --version         prints the version\n")))))))))
+
+-- what `--version` prints
+unfoldable pub version_text : List ℕ
+version_text = codes "zsched-population 0.3.0\n"
+
 -- How the program ends, by its request. Reports are joined if their bytes are known.
 abbrev pub ProgramEnds : Result Request OptionFault → List (Option (List ℕ))
     → Result (Unit {0}) PopulationFault → Reading → Writing → Type 0 → Type 0
-ProgramEnds (Ok Help) reports result r w Untouched = WroteText Write HELP.now result w
-ProgramEnds (Ok Version) reports result r w Untouched = WroteText Write VERSION.now result w
+ProgramEnds (Ok Help) reports result r w Untouched = WroteText Write help_text result w
+ProgramEnds (Ok Version) reports result r w Untouched = WroteText Write version_text result w
 ProgramEnds (Ok (Run range)) reports result r w Untouched = Ends range result r w Untouched
 ProgramEnds (Ok Join) reports result r w Untouched = JoinEnds reports result r w Untouched
 ProgramEnds (Err fault) reports result r w Untouched = (result ≡ Err (Words fault)) × Untouched

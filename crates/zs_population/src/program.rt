@@ -1,7 +1,7 @@
 //! The program, by the words of its command line.
 ghost use Rattle.std.specs.Prelude.{◌≡◌, false, map, string_bytes};
 ghost use Rattle.zs_lines.specs.Streams.{ByWriter, reading};
-ghost use Rattle.zs_population.specs.Words.{WordsEnd};
+ghost use Rattle.zs_population.specs.Words.{WordsEnd, help_text, version_text};
 
 use crate::fault::PopulationFault;
 use crate::joining::{Files, join_reports};
@@ -13,9 +13,11 @@ use std::thread::Threads;
 use zs_pool::Gate;
 use zs_run::{Drain, Source, write_all};
 
-const VERSION: &str = "zsched-population 0.3.0\n";
-
-const HELP: &str = "usage: zsched-population [--jobs A..B | --check REPORT..] < POPULATION
+// What `--help` prints.
+fn help() -> &'static str
+    ensures text { result.now ≡ help_text }
+{
+    "usage: zsched-population [--jobs A..B | --check REPORT..] < POPULATION
 
 Reads JSON lines: first a plan without jobs, then a job a line.
 Writes the report of all jobs, as of one plan.
@@ -25,7 +27,15 @@ Writes the report of all jobs, as of one plan.
   --check REPORT..  joins such reports, in order, to the report of all jobs
   --help            prints this
   --version         prints the version
-";
+"
+}
+
+// What `--version` prints.
+fn version() -> &'static str
+    ensures text { result.now ≡ version_text }
+{
+    "zsched-population 0.3.0\n"
+}
 
 /// Does what the words after the program's name say: without a word, it runs all jobs. The report
 /// of a range of jobs is followed by its trailer. `--check` joins reports of ranges that follow
@@ -49,8 +59,8 @@ pub fn run_words<T: Threads + Wait + Sync, G: Gate, F: Files, R: Source, W: Drai
     let text = match request_of(words) {
         Ok(Request::Run(range)) => return run_population(rt, alloc, gate, range, reader, writer),
         Ok(Request::Join) => return join_reports(alloc, files, &words[1..], reader, writer),
-        Ok(Request::Help) => HELP,
-        Ok(Request::Version) => VERSION,
+        Ok(Request::Help) => help(),
+        Ok(Request::Version) => version(),
         Err(fault) => return Err(PopulationFault::Words(fault)),
     };
     write_all(writer, text.as_bytes()).map_err(|sent| PopulationFault::Write { sent: sent as u128 })
