@@ -19,12 +19,22 @@ use std::marker::Model;
 use zs_step::Compiled;
 
 /// A numbered job with the attempts so far. A poll that runs out of memory breaks it.
-#[derive(Drop)]
 pub struct Task {
     number: u64,
     // In a box, so that a task is moved as three words.
     progress: Box<Progress>,
     broken: bool,
+}
+
+// Written by hand: crates that drop one need no proof of what is in it.
+impl Drop for Task {
+    fn drop(self) {
+        let Task {
+            number: _,
+            progress: _,
+            broken: _,
+        } = self;
+    }
 }
 
 impl Model for Task {

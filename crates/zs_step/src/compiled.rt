@@ -18,7 +18,6 @@ use zs_term::{Checked, Out};
 ///
 /// The schedule's size bounds the nodes that a step visits and the memory of the state, however
 /// long the history is. Only the lists of `collectAll` grow with each step.
-#[derive(Drop)]
 pub struct Compiled {
     state: State,
     last: u64,
@@ -26,6 +25,19 @@ pub struct Compiled {
     alloc: Global,
     checked: Checked,
     ghost small: { weight (state_schedule state) ≤ max_weight },
+}
+
+// Written by hand: crates that drop one need no proof of what is in it.
+impl Drop for Compiled {
+    fn drop(self) {
+        let Compiled {
+            state: _,
+            last: _,
+            broken: _,
+            alloc: _,
+            checked: _,
+        } = self;
+    }
 }
 
 impl Compiled {
