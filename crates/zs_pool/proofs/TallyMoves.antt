@@ -8,7 +8,7 @@ use Rattle.atomic_table.specs.Table.{State, Me, step, Allows, Splits, Joins, Fin
 use Rattle.atomic_table.specs.Table.Act.{keeps}
 use Rattle.zs_pool.specs.declared.tally.rule.Tallied.{Tallied}
 use Rattle.zs_pool.specs.Runs.{Every}
-use Rattle.zs_pool.specs.Tally.{tallied, TallyRun, KeepsTally, Counted, Noted, Fitting, Loaded}
+use Rattle.zs_pool.specs.Tally.{tallied, TallyRun, KeepsTally, CountsOne, Noted, Fitting, Loaded}
 use Rattle.zs_term.specs.Saturating.{max_moment}
 use Rattle.zs_pool.proofs.Views.{Moved, total_moved, total_two, every_moved, every_map, knows, changes, forked, merged, one_word}
 
@@ -54,8 +54,8 @@ moves slots id me k f w then wraps more less sees told s run homes at fits =
     )) run at in
     (r.0, keeps, tt, r.1, r.2)
 
-pub counts : (slots id : ℕ) (me : Me (Unit {0}) Tallied) → 1 ≤ me.0.allowance → Allows Rule slots id me 0 (λ n. (n + 1) % 2 ^ 64) (Counted (step slots 0 1 0 none) me)
-counts slots id me some_left = moves slots id me 1 (λ n. (n + 1) % 2 ^ 64) (λ n. tallied (me.0.count + 1) (me.0.allowance - 1) me.0.seen me.0.noted) (Counted (step slots 0 1 0 none) me)
+pub counts : (slots id : ℕ) (me : Me (Unit {0}) Tallied) → 1 ≤ me.0.allowance → Allows Rule slots id me 0 (λ n. (n + 1) % 2 ^ 64) (CountsOne (step slots 0 1 0 none) me)
+counts slots id me some_left = moves slots id me 1 (λ n. (n + 1) % 2 ^ 64) (λ n. tallied (me.0.count + 1) (me.0.allowance - 1) me.0.seen me.0.noted) (CountsOne (step slots 0 1 0 none) me)
     (λ n room. mod-eq_of_lt (omega arith)) (λ n. refl) (λ n. omega arith) (λ n h. h) (λ n own saw room. refl)
 
 pub sees : (slots id : ℕ) (me : Me (Unit {0}) Tallied) → Allows Rule slots id me 0 (λ n. n) (Loaded (step slots 0 0 0 none) me)

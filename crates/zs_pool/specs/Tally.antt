@@ -25,8 +25,8 @@ abbrev pub KeepsTally : Unit {0} → State (Unit {0}) Tallied → Type 0
 KeepsTally key s = TallyRun s.words s.views
 
 -- a seat adds one
-abbrev pub Counted : Step (Unit {0}) → Me (Unit {0}) Tallied → ℕ → Me (Unit {0}) Tallied → Type 0
-Counted st me n now =
+abbrev pub CountsOne : Step (Unit {0}) → Me (Unit {0}) Tallied → ℕ → Me (Unit {0}) Tallied → Type 0
+CountsOne st me n now =
     now ≡ (tallied (me.0.count + 1) (me.0.allowance - 1) me.0.seen me.0.noted, me.1)
 
 -- a seat reads the word n

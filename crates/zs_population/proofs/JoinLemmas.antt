@@ -12,9 +12,9 @@ use Rattle.zs_run.specs.PlanReport.{with_total}
 use Rattle.zs_lines.specs.Streams.{ByWriter}
 use Rattle.zs_population.specs.Ending.{IsWhole, SentPart}
 use Rattle.zs_population.specs.Joining.{AreParts, JoinEnds, WasRead, WroteParts}
-use Rattle.zs_population.specs.Progress.{AddFails, AddsReport, HasJoined, PopulationFails}
+use Rattle.zs_population.specs.JoinProgress.{AddFails, AddsReport, HasJoined, PopulationFails}
 use Rattle.zs_population.specs.Sums.{HasSums}
-use Rattle.zs_population.specs.declared.joining.Progress.{Progress}
+use Rattle.zs_population.specs.declared.joining.JoinProgress.{JoinProgress}
 use Rattle.zs_population.specs.declared.lines.Sums.{Sums}
 use Rattle.zs_population.specs.declared.fault.PopulationFault.{PopulationFault}
 use Rattle.zs_population.specs.declared.fault.PopulationFault.TheVariants.{Read, Line, Engine, Write, Report, Missing, Words}
@@ -57,7 +57,7 @@ pub joined-none : (sums : Sums) (reports : List (Option (List ℕ))) (before : O
 joined-none sums reports before = ([], (refl, refl, refl), Appends-nil before, refl)
 
 -- one more report
-pub joined-more : (sums : Sums) (reports : List (Option (List ℕ))) (n : ℕ) (bytes : Option (List ℕ)) (old new : Progress) (before mid taken : Option (List ℕ))
+pub joined-more : (sums : Sums) (reports : List (Option (List ℕ))) (n : ℕ) (bytes : Option (List ℕ)) (old new : JoinProgress) (before mid taken : Option (List ℕ))
     → take (n + 1) reports ≡ take n reports ++ bytes ∷ [] → HasJoined sums reports n old before mid → AddsReport sums bytes old new mid taken → HasJoined sums reports (n + 1) new before taken
 joined-more sums reports n bytes old new before mid taken more has adds =
     let parts = parts-snoc sums 0 (take n reports) old.next has.0 old.polls has.1 bytes adds.0 adds.1.0 adds.1.1 in (
@@ -103,7 +103,7 @@ module _ (reports : List (Option (List ℕ))) (r : Reading) (count : ℕ) (sums 
       )
 
   -- a report can't be added
-  pub join-unadded : {W : Type 0} (contents : W → Option (List ℕ)) (mark flushed : W → Bool) (first old new : W) (n : ℕ) (bytes : Option (List ℕ)) (joined : Progress) (fault : PopulationFault)
+  pub join-unadded : {W : Type 0} (contents : W → Option (List ℕ)) (mark flushed : W → Bool) (first old new : W) (n : ℕ) (bytes : Option (List ℕ)) (joined : JoinProgress) (fault : PopulationFault)
       → take (n + 1) reports ≡ take n reports ++ bytes ∷ [] → drop n reports ≡ bytes ∷ drop (n + 1) reports → n ≤ length reports → joined.reports ≡ n
       → HasJoined sums reports n joined (contents first) (contents old) → IsWhole n (flushed old) (old ≡ first)
       → ByWriter contents mark flushed old new (AddFails sums bytes joined fault) → ByWriter contents mark flushed first new (JoinEnds reports (Err fault) r)
@@ -139,7 +139,7 @@ module _ (reports : List (Option (List ℕ))) (r : Reading) (count : ℕ) (sums 
   join-unadded contents mark flushed first old new n bytes joined (Missing later) more next within counts has whole stopped = absurd stopped
   join-unadded contents mark flushed first old new n bytes joined (Words fault) more next within counts has whole stopped = absurd stopped
 
-  module _ (n : ℕ) (joined : Progress) (before mid : Option (List ℕ)) (all : n ≡ length reports) (has : HasJoined sums reports n joined before mid) where
+  module _ (n : ℕ) (joined : JoinProgress) (before mid : Option (List ℕ)) (all : n ≡ length reports) (has : HasJoined sums reports n joined before mid) where
     -- all reports are those of parts
     are-parts : AreParts sums 0 reports joined.next has.0 joined.polls
     are-parts = rw (take_all n reports (omega (arith, all))) at has.1

@@ -12,7 +12,7 @@ use Rattle.zs_lines.specs.Lines.{lines_of}
 use Rattle.zs_lines.proofs.LineLemmas.{begins-more, took-more, took-nothing}
 use Rattle.zs_population.specs.Joining.{WasRead}
 use Rattle.zs_population.specs.Population.{all_jobs, block_jobs, jobs_at, max_population}
-use Rattle.zs_population.specs.Progress.{PopulationFails}
+use Rattle.zs_population.specs.JoinProgress.{PopulationFails}
 use Rattle.zs_population.specs.Reads.{BlockFault, BlockReads, HeadFault, HeadReads, names_of}
 use Rattle.zs_population.specs.Sums.{HasSums, IsSummed, sums_of}
 use Rattle.zs_population.specs.declared.lines.LineReader.{LineReader}

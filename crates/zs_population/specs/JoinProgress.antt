@@ -8,7 +8,7 @@ use Rattle.zs_population.specs.Ending.{SentPart, WasRefused}
 use Rattle.zs_population.specs.Joining.{AreParts, IsPart, PartRecord, ReportFails}
 use Rattle.zs_population.specs.Population.{all_jobs}
 use Rattle.zs_population.specs.declared.lines.Sums.{Sums}
-use Rattle.zs_population.specs.declared.joining.Progress.{Progress}
+use Rattle.zs_population.specs.declared.joining.JoinProgress.{JoinProgress}
 use Rattle.zs_population.specs.declared.fault.PopulationFault.{PopulationFault}
 use Rattle.zs_population.specs.declared.fault.PopulationFault.TheVariants.{Read, Line, Engine}
 use Rattle.zs_population.specs.declared.fault.PopulationFault.TheVariants.{Write, Report, Missing}
@@ -26,20 +26,20 @@ PopulationFails before (Missing next) = ⊥
 PopulationFails before (Words fault) = ⊥
 
 -- A part of a population with these sums is the next one. Some bytes are its report, if known.
-abbrev pub IsNext : Sums → Option (List ℕ) → Progress → PartRecord → Type 0
+abbrev pub IsNext : Sums → Option (List ℕ) → JoinProgress → PartRecord → Type 0
 IsNext sums bytes joined part =
     IfSome bytes (λ known. IsPart sums known part) × (part.range.first ≡ joined.next)
 
 -- Some bytes, if they are known, are the report of the next part. Its lines were written, and its
 -- jobs and polls were added.
-abbrev pub AddsReport : Sums → Option (List ℕ) → Progress → Progress → Option (List ℕ)
+abbrev pub AddsReport : Sums → Option (List ℕ) → JoinProgress → JoinProgress → Option (List ℕ)
     → Option (List ℕ) → Type 0
 AddsReport sums bytes old new before taken = (part : PartRecord) × IsNext sums bytes old part
     × (new.next ≡ old.next + part.range.count) × (new.polls ≡ old.polls + part.polls)
     × (new.sent ≡ old.sent + length part.lines) × Appends before taken part.lines
 
 -- why a report can't be added
-abbrev pub AddFails : Sums → Option (List ℕ) → Progress → PopulationFault → Writing → Type 0
+abbrev pub AddFails : Sums → Option (List ℕ) → JoinProgress → PopulationFault → Writing → Type 0
     → Type 0
 AddFails sums bytes joined Read w Untouched = ⊥
 AddFails sums bytes joined (Line line fault) w Untouched = ⊥
@@ -53,7 +53,7 @@ AddFails sums bytes joined (Missing next) w Untouched = ⊥
 AddFails sums bytes joined (Words fault) w Untouched = ⊥
 
 -- The first n reports were joined, and their lines were written.
-abbrev pub HasJoined : Sums → List (Option (List ℕ)) → ℕ → Progress → Option (List ℕ)
+abbrev pub HasJoined : Sums → List (Option (List ℕ)) → ℕ → JoinProgress → Option (List ℕ)
     → Option (List ℕ) → Type 0
 HasJoined sums reports n joined before taken = (lines : List ℕ)
     × AreParts sums 0 (take n reports) joined.next lines joined.polls

@@ -12,4 +12,4 @@ pub mod Reads
 pub mod Parts
 pub mod Tails
 pub mod Blocks
-pub mod Progress
+pub mod JoinProgress

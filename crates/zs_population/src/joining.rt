@@ -5,7 +5,7 @@ ghost use Rattle.zs_lines.specs.Streams.{ByWriter, reading};
 ghost use Rattle.zs_population.specs.Joining.{IsPart, IsUnread, PathsEnd, ReportFails, WasRead};
 ghost use Rattle.zs_population.specs.Parts.{part_record};
 ghost use Rattle.zs_population.specs.Population.{max_population};
-ghost use Rattle.zs_population.specs.Progress.{AddFails, AddsReport, PopulationFails};
+ghost use Rattle.zs_population.specs.JoinProgress.{AddFails, AddsReport, PopulationFails};
 
 use crate::block::{BLOCK, read_block, read_first, write_block};
 use crate::fault::{PopulationFault, ReportFault};
@@ -29,7 +29,7 @@ pub trait Files {
 
 // How far reports were joined: how many, up to which job, their polls, and the bytes written.
 #[derive(Drop)]
-struct Progress {
+struct JoinProgress {
     reports: u64,
     next: u64,
     polls: u128,
@@ -61,7 +61,7 @@ fn read_jobs<R: Source>(alloc: Global, reader: &mut R) -> Result<(u64, Sums), Po
 fn next_part<'a>(
     alloc: Global,
     report: &'a [u8],
-    joined: &Progress,
+    joined: &JoinProgress,
     sums: &Sums,
 ) -> Result<PartReport<'a>, ReportFault>
     ensures part { IfOk result (λ part. IsPart sums.now report.now (part_record part)) }
@@ -83,7 +83,7 @@ fn add_report<F: Files, W: Drain>(
     files: &F,
     path: &str,
     sums: &Sums,
-    joined: &mut Progress,
+    joined: &mut JoinProgress,
     writer: &mut W,
 ) -> Result<(), PopulationFault>
     requires clear { W.mark writer.old ≡ false }
@@ -129,7 +129,7 @@ pub(crate) fn join_reports<F: Files, R: Source, W: Drain>(
         (F.contents files.now) paths.now (reading R.remaining R.mark reader.old reader.new)) }
 {
     let (count, sums) = read_jobs(alloc, reader)?;
-    let mut joined = Progress {
+    let mut joined = JoinProgress {
         reports: 0,
         next: 0,
         polls: 0,

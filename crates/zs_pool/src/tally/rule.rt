@@ -30,9 +30,9 @@ impl TableRule<(), Tallied, ()> for Exact {
 pub(crate) struct Counts;
 
 impl Play<(), Tallied> for Counts {
-    ghost use Rattle.zs_pool.specs.Tally.{Counted};
+    ghost use Rattle.zs_pool.specs.Tally.{CountsOne};
 
-    ghost then = { Counted };
+    ghost then = { CountsOne };
 }
 
 /// Reads the word.

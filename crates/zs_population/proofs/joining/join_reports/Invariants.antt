@@ -1,6 +1,6 @@
 use Rattle.std.proofs.Common.{◌≡◌, ◌≤◌, ◌*◌, ◌^◌, map, false, string_bytes}
 use Rattle.zs_population.specs.Ending.{IsWhole}
-use Rattle.zs_population.specs.Progress.{HasJoined}
+use Rattle.zs_population.specs.JoinProgress.{HasJoined}
 use Rattle.zs_population.proofs.joining.join_reports.Given as goal
 
 -- the first reports were joined
