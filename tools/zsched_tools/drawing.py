@@ -9,18 +9,15 @@ from zsched_tools.words import DAY, HOUR, MINUTE, duration
 # Widths of DejaVu Sans, in parts of the text's size. Verdana's are nearly the same, those of other fonts smaller.
 _WIDTHS = {0.33: "ijlIJ .,:;'|·", 0.42: "frt-()[]/", 0.56: "cszLF_", 0.8: "wDGHNOQU+", 1.0: "mMW%@…"}
 _WIDTH_OF = {letter: width for width, letters in _WIDTHS.items() for letter in letters}
-_OTHER_WIDTH = 0.7
-_LETTER_WIDTH = 0.645
 NEAREST_LABELS = 90
 LONGEST_LABEL = 12
-_SHORT_STEPS = [1, 2, 5, 10, 20, 50, 100, 200, 500]
-_STEPS = (_SHORT_STEPS + [1000 * it for it in [1, 2, 5, 10, 15, 30]] + [MINUTE * it for it in [1, 2, 5, 10, 15, 30]]
-          + [HOUR * it for it in [1, 2, 3, 6, 12]])
+_STEPS = [1, 2, 5, 10, 20, 50, 100, 200, 500, *(unit * it for unit in [1000, MINUTE] for it in [1, 2, 5, 10, 15, 30]),
+          *(HOUR * it for it in [1, 2, 3, 6, 12])]
 
 
 def text_width(text, size):
     """How wide a text is drawn at most, in pixels."""
-    return size * sum(_WIDTH_OF.get(it, _OTHER_WIDTH if it.isupper() else _LETTER_WIDTH) for it in text)
+    return size * sum(_WIDTH_OF.get(it, 0.7 if it.isupper() else 0.645) for it in text)
 
 
 def cut_text(text, size, room):
@@ -37,19 +34,14 @@ def place(pixels):
     return f"{pixels:.1f}".removesuffix(".0")
 
 
-def root(width, height, label, is_file=True):
-    """The beginning of a picture, which is as large as it was drawn: a narrow window scrolls, letters stay readable."""
-    height = place(height)
-    kind = 'xmlns="http://www.w3.org/2000/svg" ' if is_file else ""
-    return (f'<svg {kind}width="{width}" height="{height}" viewBox="0 0 {width} {height}" role="img" '
-            f'aria-label="{html.escape(label)}">')
-
-
 def opening(width, height, label, style, is_file=True, patterns=""):
-    """The first lines of a picture: its size, its styles, and its background."""
-    yield root(width, height, label, is_file)
+    """The first lines of a picture: its size, its styles, and its background. It is as large as it was drawn: a narrow
+    window scrolls, letters stay readable."""
+    kind, height = 'xmlns="http://www.w3.org/2000/svg" ' if is_file else "", place(height)
+    yield (f'<svg {kind}width="{width}" height="{height}" viewBox="0 0 {width} {height}" role="img" '
+           f'aria-label="{html.escape(label)}">')
     yield f"<style>{style}</style>" + (f"\n<defs>{patterns}</defs>" if patterns else "")
-    yield f'<rect class="page" width="{width}" height="{place(height)}"/>'
+    yield f'<rect class="page" width="{width}" height="{height}"/>'
 
 
 def rectangle(left, top, right, bottom, style, title=None, corner=0.0):

@@ -8,7 +8,7 @@ from zsched_tools.command import Refused
 from zsched_tools.drawing import (Scale, View, cut_text, labels, opening, path, place, rectangle, shown_moments, text,
                                   text_width, titled)
 from zsched_tools.reports import Attempt, Ending, Job
-from zsched_tools.words import duration, ending_text, plural
+from zsched_tools.words import duration, ending_text, plural, shown
 
 MOST_JOBS, LONGEST_RESULT = 200, 24
 # In pixels.
@@ -53,32 +53,27 @@ class Shape:
     failed: int
 
 
-class Shapes:
+def shapes_of(attempts, scale):
     """The shapes of a job's attempts, from left to right."""
-
-    def __init__(self, attempts, scale):
-        self.found = []
-        for attempt in attempts:
-            if attempt.begin > scale.last or (attempt.end is not None and attempt.end < scale.first):
-                continue
-            right = scale.right if attempt.end is None else scale.at(attempt.end)
-            self._add(attempt, scale.at(attempt.begin), right)
-        for shape, after in zip(self.found, self.found[1:]):
-            shape.right = max(min(shape.right, after.left), shape.left + LEAST)
-        # The last shape ends with the plot, or a little after it if it would be too narrow to see.
-        for shape in self.found[-1:]:
-            shape.right = max(min(shape.right, scale.right), shape.left + NARROWEST)
-
-    def _add(self, attempt, left, right):
-        last = self.found[-1] if self.found else None
+    found = []
+    for attempt in attempts:
+        if attempt.begin > scale.last or (attempt.end is not None and attempt.end < scale.first):
+            continue
+        left, right = scale.at(attempt.begin), scale.right if attempt.end is None else scale.at(attempt.end)
         is_narrow = right - left < ALONE and attempt.end is not None
         if is_narrow:
             right = max(right, left + NARROWEST)
-        failed = int(attempt.outcome == "err")
+        failed, last = int(attempt.outcome == "err"), found[-1] if found else None
         if last is not None and is_narrow and last.is_narrow and left - last.right < NEAR and left - last.left < BLOCK:
             last.last, last.right, last.count, last.failed = attempt, right, last.count + 1, last.failed + failed
         else:
-            self.found.append(Shape(left, right, is_narrow, attempt, attempt, 1, failed))
+            found.append(Shape(left, right, is_narrow, attempt, attempt, 1, failed))
+    for shape, after in zip(found, found[1:]):
+        shape.right = max(min(shape.right, after.left), shape.left + LEAST)
+    # The last shape ends with the plot, or a little after it if it would be too narrow to see.
+    for shape in found[-1:]:
+        shape.right = max(min(shape.right, scale.right), shape.left + NARROWEST)
+    return found
 
 
 def shape_title(shape, name):
@@ -94,8 +89,8 @@ def shape_title(shape, name):
     if attempt.waited is not None:
         words += f", waited {duration(attempt.waited)}"
     if attempt.out is not None:
-        out = attempt.out if len(attempt.out) <= 60 else attempt.out[:58] + ".."
-        words += f"; step: out {out}, " + ("done" if attempt.next is None else f"next {attempt.next}")
+        step = "done" if attempt.next is None else f"next {attempt.next}"
+        words += f"; step: out {shown(attempt.out, 60)}, {step}"
     return words
 
 
@@ -176,7 +171,7 @@ class Layout:
         moments = shown_moments([row.attempts for row in rows], self.horizon)
         self.scale = Scale(*(view_within(*moments, view) if rows else moments), self.left, self.right, unit)
         self.labels, self.base = labels(self.scale)
-        self.shapes = [Shapes(row.attempts, self.scale).found for row in rows]
+        self.shapes = [shapes_of(row.attempts, self.scale) for row in rows]
         self.waits = [list(waits_of(row, shapes, self.scale)) for row, shapes in zip(rows, self.shapes)]
         self.top = 34 + head + (18 if self.base else 0)
         self.bottom = self.top + count * self.row
@@ -296,8 +291,7 @@ def draw(rows, title, view=View(), is_file=True, notes=()):
     head = 30 if title else 0
     layout = Layout(rows, head + 18 * len(notes), view)
     entries, height = legend(layout, rows)
-    label = title or "Timeline of a report of zsched"
-    yield from opening(WIDTH, layout.foot + height, label, STYLE, is_file, PATTERNS)
+    yield from opening(WIDTH, layout.foot + height, title or "Timeline of a report of zsched", STYLE, is_file, PATTERNS)
     if title:
         yield text(MARGIN, 27, cut_text(title, TITLE_SIZE * 1.1, WIDTH - 2 * MARGIN), "title")
     for number, note in enumerate(notes, 1):

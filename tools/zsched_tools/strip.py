@@ -1,4 +1,5 @@
 """Draws the load of many jobs as a strip of bars, below the rows of a picture or in place of them."""
+from typing import NamedTuple
 
 from zsched_tools import picture
 from zsched_tools.command import Refused
@@ -61,32 +62,24 @@ def _lines(top, times):
     return base, base + WORDS + times * LINES
 
 
-def _grid(moment, scale, top):
-    """The line of a moment in a picture that has only a load. It doesn't cross the words above the bars."""
-    base, floor = _lines(top, ALONE)
-    at = place(scale.at(moment))
-    return path(f"M{at} {place(top + WORDS)}V{place(base)}M{at} {place(base + WORDS)}V{place(floor + 8)}", "grid")
-
-
 def _words(long, short, scale, base):
     """What a part of the strip shows, in long words if they fit, else in short ones."""
     has_room = text_width(long, picture.SMALL_SIZE) <= scale.right - scale.left
     return text(scale.left, base, long if has_room else short, "axis")
 
 
-def _places(row, every, scale):
+def _places(moment, every, scale):
     """The left and the right end of a step's bar, with a gap before the next one."""
-    left, right = max(scale.left, scale.at(max(row[0], scale.first))), scale.at(row[0] + every)
+    left, right = max(scale.left, scale.at(max(moment, scale.first))), scale.at(moment + every)
     return left, max(left + 0.5, right - 0.4)
 
 
 def _bars(rows, every, scale, base, unit):
     """The bars of the attempts that ended in each step, with the step's figures as titles."""
-    for row in rows:
-        moment, begun, ok, err, running, waiting = row
+    for moment, begun, ok, err, running, waiting in rows:
         if not begun + ok + err:
             continue
-        left, right = _places(row, every, scale)
+        left, right = _places(moment, every, scale)
         yield "<g>" + titled(f"{duration(moment)} .. {duration(moment + every)}: {begun} begun, {ok} ok, {err} err; "
                              f"at the end {running} running, {waiting} waiting")
         if err:
@@ -98,9 +91,8 @@ def _bars(rows, every, scale, base, unit):
 
 def _levels(rows, every, scale, base, unit):
     """The bars of what runs and what waits at the end of each step."""
-    for row in rows:
-        running, waiting = row[4:]
-        (left, right), level = _places(row, every, scale), base - (running + waiting) * unit
+    for moment, *_, running, waiting in rows:
+        (left, right), level = _places(moment, every, scale), base - (running + waiting) * unit
         if running:
             yield rectangle(left, base - running * unit, right, base, "running")
         if waiting:
@@ -126,9 +118,10 @@ def draw_strip(load, title, note=None, view=View(), width=None):
     scale = Scale(*moments, left, width - LEFT, load.every if view.is_log else None)
     found, base = labels(scale)
     top = 16 + (30 if title else 0) + (20 if note else 0) + (18 if base else 0)
-    bottom = _lines(top, ALONE)[1] + 8
-    label = title or "Load of a report of zsched"
-    yield from opening(width, bottom + 34, label, picture.STYLE, is_file, picture.PATTERNS)
+    middle, floor = _lines(top, ALONE)
+    bottom = floor + 8
+    yield from opening(width, bottom + 34, title or "Load of a report of zsched", picture.STYLE, is_file,
+                       picture.PATTERNS)
     if title:
         yield text(LEFT, 27, cut_text(title, picture.TITLE_SIZE * 1.1, width - 2 * LEFT), "title")
     if note:
@@ -136,41 +129,40 @@ def draw_strip(load, title, note=None, view=View(), width=None):
     if base:
         yield text(LEFT, top - 6, f"time since moment {base} ms", "axis")
     for moment, label in found:
-        yield _grid(moment, scale, top)
         at = scale.at(moment)
+        x = place(at)
+        # The line doesn't cross the words above the bars.
+        yield path(f"M{x} {place(top + WORDS)}V{place(middle)}M{x} {place(middle + WORDS)}V{place(bottom)}", "grid")
         yield text(at, bottom + 16, label, "axis", "start" if at < 60 else "end" if at > width - 60 else "middle")
     yield from strip(load, scale, top, ALONE)
     yield "</svg>"
 
 
-class Crowd:
+class Crowd(NamedTuple):
     """The jobs of a report that are drawn: the rows of at most MOST_JOBS jobs, the number of all, and their load."""
-
-    def __init__(self):
-        self.rows, self.jobs, self.load, self.attempts = [], 0, Load(1), []
-
-    def add(self, job, record):
-        """Adds a record of a job."""
-        self.load = self.load.take(record).fitted()
-        if isinstance(record, Attempt):
-            self.attempts += [record] * (self.jobs < picture.MOST_JOBS)
-            return
-        self.jobs += 1
-        if self.jobs <= picture.MOST_JOBS:
-            self.rows.append(picture.Row(job, self.attempts, record))
-            self.attempts = []
+    rows: list
+    jobs: int
+    load: Load
 
 
 def crowd_of(file, chosen, progress=None):
     """The jobs of a report, a binary file, that are drawn: the chosen ones, or all."""
-    crowd, missing = Crowd(), set(chosen)
+    rows, attempts, jobs, load, missing = [], [], 0, Load(1), set(chosen)
     for job, record in records(file, progress):
-        if job is not None and (not chosen or job.name in chosen):
-            crowd.add(job, record)
-            missing.discard(job.name)
+        if job is None or chosen and job.name not in chosen:
+            continue
+        missing.discard(job.name)
+        load = load.take(record).fitted()
+        if isinstance(record, Attempt):
+            attempts += [record] * (jobs < picture.MOST_JOBS)
+            continue
+        if jobs < picture.MOST_JOBS:
+            rows.append(picture.Row(job, attempts, record))
+            attempts = []
+        jobs += 1
     if missing:
         raise Refused(f"has no job {min(missing)}")
-    return crowd
+    return Crowd(rows, jobs, load)
 
 
 def draw_crowd(crowd, title, view=View(), notes=()):

@@ -43,8 +43,7 @@ def plural(number, name):
 
 def ending_text(how, result, widest=30):
     """How a job ended, with its value or output. A long text is cut."""
-    text = f"{how} {result}" if result else how
-    return text if len(text) <= widest else text[:widest - 2] + ".."
+    return shown(f"{how} {result}" if result else how, widest)
 
 
 def table(rows, left=3):

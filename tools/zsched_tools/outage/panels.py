@@ -27,7 +27,6 @@ text{font-family:"DejaVu Sans",Verdana,Geneva,sans-serif;fill:var(--ink);font-si
 .running{fill:none;stroke:var(--run);stroke-width:1.3;stroke-dasharray:4 3}
 .capacity{fill:none;stroke:var(--ink);stroke-width:1.3;stroke-dasharray:1 3}
 .down{fill:var(--down)}.slow{fill:var(--slow)}.full{fill:var(--full)}"""
-NARROW, WIDE = 360, 920
 
 PAGE_HEAD = """<!doctype html>
 <html lang="en">
@@ -70,14 +69,11 @@ class Layout:
         self.scale = Scale(0, last * THOUSAND, self.left, width - MARGIN)
         self.title = _wrapped(headline(scenario), width - 2 * MARGIN)
         self.top = 26 + 18 * len(self.title)
+        # The foot of the last panel's plot.
+        self.bottom = self.panel(len(figures) - 1) + PANEL
 
     def panel(self, number):
         return self.top + number * (HEAD_ROOM + WORDS + PANEL + GAP - 20) + HEAD_ROOM + WORDS
-
-    @property
-    def bottom(self):
-        """The foot of the last panel's plot."""
-        return self.panel(len(self.figures) - 1) + PANEL
 
 
 def columns(rows, every):
@@ -185,18 +181,18 @@ def _legend(layout):
     styles = {"begun": "begun", "ok": "ended ok", "err": "ended err", "running": "running", "capacity": "capacity"}
     if not any('"capacity"' in it for it in _windows(layout, layout.top)[1]):
         del styles["capacity"]
+    styles[None] = "attempts in each second" + (f", the most of {layout.every} seconds" if layout.every > 1 else "")
     for style, words in styles.items():
-        if left + 24 + text_width(words, SMALL) > layout.width - MARGIN:
+        room = 24 if style else 0
+        if left + room + text_width(words, SMALL) > layout.width - MARGIN:
             left, base = float(MARGIN), base + 18
-        is_line = style in ("begun", "running", "capacity")
-        found.append(path(f"M{place(left)} {place(base - 4)}h18", style) if is_line else rectangle(
-            left, base - 10, left + 18, base + 1, style))
-        found.append(text(left + 24, base, words, "soft"))
-        left += 24 + text_width(words, SMALL) + 18
-    words = "attempts in each second" + (f", the most of {layout.every} seconds" if layout.every > 1 else "")
-    if left + text_width(words, SMALL) > layout.width - MARGIN:
-        left, base = float(MARGIN), base + 18
-    return [*found, text(left, base, words, "soft")], base + MARGIN
+        if style in ("begun", "running", "capacity"):
+            found.append(path(f"M{place(left)} {place(base - 4)}h18", style))
+        elif style:
+            found.append(rectangle(left, base - 10, left + 18, base + 1, style))
+        found.append(text(left + room, base, words, "soft"))
+        left += room + text_width(words, SMALL) + 18
+    return found, base + MARGIN
 
 
 def draw_curves(scenario, figures, width=960, is_file=True):
@@ -217,7 +213,7 @@ def draw_curves(scenario, figures, width=960, is_file=True):
 def curve_page(scenario, figures):
     """The page, in pieces."""
     yield PAGE_HEAD.format(title=html.escape(headline(scenario)))
-    for style, width in [("wide", WIDE), ("narrow", NARROW)]:
+    for style, width in [("wide", 920), ("narrow", 360)]:
         yield f'<div class="{style}">\n'
         for line in draw_curves(scenario, figures, width, is_file=False):
             yield f"{line}\n"
