@@ -6,6 +6,7 @@ that of the last attempt, and the polls are the moments at which attempts began 
 2^64 - 1; the total of the last line has no bound, since the report of a population may have any number of jobs.
 
 Reports that a tool has just got from the program are cut into jobs by `blocks_of`, and aren't checked again."""
+import contextlib
 import dataclasses
 import io
 import re
@@ -137,8 +138,7 @@ class Reader:
 
     def _number(self, text, match):
         """A number of a line, which is at most 2^64 - 1."""
-        number = int(text)
-        if number > MOST:
+        if (number := int(text)) > MOST:
             self._refuse("has a number above 18446744073709551615", match[0])
         return number
 
@@ -254,17 +254,13 @@ def records(file, progress=None):
     """The records of a report, a binary file, each with its job: attempts and ending of each job, and last the total
     without a job. The records before a fault are yielded before the fault is raised."""
     reader = Reader()
-    try:
+    with contextlib.closing(progress) if progress else contextlib.nullcontext():
         for text in text_lines(as_text(file)):
             if progress is not None:
                 progress.add(len(text) + 1)
             job = reader.job
-            record = reader.take(text)
-            if record is not None:
+            if (record := reader.take(text)) is not None:
                 yield job, record
-    finally:
-        if progress is not None:
-            progress.close()
     reader.close()
 
 

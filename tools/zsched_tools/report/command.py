@@ -71,23 +71,18 @@ def _progress(size):
     return Progress(TOOL, lambda done: f"{done // 10**6} of {size // 10**6} MB read, {100 * done // size} %")
 
 
-def _write(words):
-    sys.stdout.write(words)
-
-
 def _lines(given):
-    def work(file, progress):
-        """Writes lines while the report is read. On a terminal they leave no room for a progress line."""
-        write_lines(file, _write, None if sys.stdout.isatty() else progress)
-    _with_source(given, work)
+    # On a terminal the lines leave no room for a progress line.
+    _with_source(given, lambda file, progress: write_lines(
+        file, sys.stdout.write, None if sys.stdout.isatty() else progress))
 
 
 def _load(given):
     found = _with_source(given, lambda file, progress: load.read(file, given.every, progress))
     if given.svg:
         command.write(given.svg, "".join(f"{line}\n" for line in draw_strip(found, given.title)))
-    for line in () if given.svg == "-" else (load.csv if given.csv else load.text)(found):
-        _write(f"{line}\n")
+    if given.svg != "-":
+        sys.stdout.writelines(f"{line}\n" for line in (load.csv if given.csv else load.text)(found))
 
 
 def _draw(given, is_page):
@@ -101,13 +96,11 @@ def _draw(given, is_page):
         pieces = page(crowd.rows, given.title, view)
     else:
         pieces = load_page(crowd.load, given.title, note_of(crowd), view)
-    for piece in pieces:
-        _write(piece)
+    sys.stdout.writelines(pieces)
 
 
 def _step(word):
-    found = duration_argument(word)
-    if found == 0:
+    if (found := duration_argument(word)) == 0:
         raise argparse.ArgumentTypeError("a step of time takes at least 1 ms")
     return found
 
@@ -146,10 +139,10 @@ def _arguments():
     parser, forms = command.forms(TOOL, DESCRIPTION, EPILOG, "FORM")
     for name, work, about, short in [
             ("lines", _lines, LINES, "JSON lines"),
-            ("from-lines", lambda given: _with_source(given, lambda file, _: write_report(as_text(file), _write)),
-             FROM_LINES, "the report again, from JSON lines"),
+            ("from-lines", lambda given: _with_source(given, lambda file, _: write_report(
+                as_text(file), sys.stdout.write)), FROM_LINES, "the report again, from JSON lines"),
             ("summary", lambda given: _with_source(given, lambda file, progress: write_summary(
-                file, _write, Options(given.sort, given.one_line, given.within), progress)),
+                file, sys.stdout.write, Options(given.sort, given.one_line, given.within), progress)),
              SUMMARY, "a table with a line a job"),
             ("load", _load, LOAD, "a table with a line for each step of time"),
             ("svg", lambda given: _draw(given, False), SVG, "a picture"),

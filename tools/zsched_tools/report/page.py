@@ -79,14 +79,6 @@ draw();
 """
 
 
-def report_of(rows):
-    """The lines of the report of some rows."""
-    for row in rows:
-        yield f"job {row.job.name} {row.job.mode}"
-        for record in [*row.attempts, row.ending]:
-            yield from report_lines(item_of(row.job, record), True)
-
-
 def _head(title):
     name = html.escape(title or "Timeline of a report of zsched")
     yield HEAD.format(title=name, style=hints.piece("drawing-style"))
@@ -97,19 +89,17 @@ def _head(title):
 def page(rows, title, view=View()):
     """The page of some jobs, in pieces."""
     yield from _head(title)
-    yield TOOLS
-    yield "<main tabindex=\"0\">\n"
+    yield TOOLS + '<main tabindex="0">\n'
     for line in picture.draw(rows, title, view, is_file=False):
         yield f"{line}\n"
-    yield "</main>\n"
-    yield '<script type="text/plain" id="report">\n'
-    for line in report_of(rows):
-        yield f"{line}\n"
+    yield '</main>\n<script type="text/plain" id="report">\n'
+    for row in rows:
+        for number, record in enumerate([*row.attempts, row.ending]):
+            yield from (f"{line}\n" for line in report_lines(item_of(row.job, record), is_open=number > 0))
     shown = {"from": view.first, "to": view.last, "isLog": view.is_log}
     options = json.dumps({key: value for key, value in shown.items() if value is not None})
     yield f'</script>\n<script type="application/json" id="view">{options}</script>\n'
-    yield f"<script>\n{hints.piece('drawing')}</script>\n<script>\n{VIEW}</script>\n"
-    yield "</html>\n"
+    yield f"<script>\n{hints.piece('drawing')}</script>\n<script>\n{VIEW}</script>\n</html>\n"
 
 
 def _style_of_widths():

@@ -7,7 +7,6 @@ from zsched_tools.reports import Attempt, Ending, records
 from zsched_tools.words import duration, ending_text, plural, table
 
 HEAD = ["job", "mode", "ending", "at", "attempts", "ok", "err", "busy", "waited", "longest wait"]
-PERCENTS = [50, 95, 99]
 WELL = ["succeeded", "finished"]
 
 
@@ -102,9 +101,6 @@ class Summary:
         most = max(running, default=0)
         return most, moments[running.index(most)] if most else 0
 
-    def table(self):
-        return table([HEAD, *(cells for _, cells in sorted(self.rows, key=lambda row: row[0]))])
-
 
 def _lines(summary):
     jobs, within = summary.jobs(), summary.options.within
@@ -116,7 +112,7 @@ def _lines(summary):
         yield f"most attempts at once: {most}, first at {duration(moment)}"
     if jobs:
         # An unfinished job takes longer than all others.
-        times, ranks = sorted(summary.times), {percent: -(-percent * jobs // 100) - 1 for percent in PERCENTS}
+        times, ranks = sorted(summary.times), {percent: -(-percent * jobs // 100) - 1 for percent in [50, 95, 99]}
         yield "time to the end: " + ", ".join(f"p{it} {duration(times[rank]) if rank < len(times) else 'unfinished'}"
                                               for it, rank in ranks.items())
     if within is not None:
@@ -135,7 +131,7 @@ def write_summary(file, write, options=Options(), progress=None):
         write("; ".join(_lines(summary)) + "\n")
         return
     if summary.jobs():
-        for line in summary.table():
+        for line in table([HEAD, *(cells for _, cells in sorted(summary.rows, key=lambda row: row[0]))]):
             write(f"{line}\n")
         write("\n")
     for line in _lines(summary):
