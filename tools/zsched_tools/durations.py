@@ -28,16 +28,14 @@ def exact_milliseconds(text):
 
 def in_milliseconds(text):
     """What to write for the text of a duration, or an empty text."""
-    length = exact_milliseconds(text)
-    if length is None:
+    if (length := exact_milliseconds(text)) is None:
         return ""
     return said("in_ms", text=length) if length.denominator == 1 else said("smallest")
 
 
 def milliseconds(text):
     """The milliseconds of a duration. A ValueError has the text of the fault."""
-    exact = exact_milliseconds(text)
-    if exact is None:
+    if (exact := exact_milliseconds(text)) is None:
         raise ValueError(said("no_duration", text=text.strip()))
     if exact.denominator != 1:
         raise ValueError(said("no_whole", text=text.strip()))

@@ -1,5 +1,6 @@
 """The place of the fault that the program reports, and what is wrong there, by the rules of docs/FORMATS.md."""
 import functools
+import itertools
 import re
 from typing import NamedTuple
 
@@ -8,9 +9,6 @@ from zsched_tools.place import Cause
 from zsched_tools.plan_faults import DOCUMENT_FAULTS, JOB_FAULTS, schedule_fault, script_fault
 from zsched_tools.positions import Document
 from zsched_tools.program import MAX_BYTES
-
-_OF_DOCUMENT = re.compile(r"plan: (?P<cause>wrong shape|unknown key|out of range)")
-_OF_JOB = re.compile(r"job (?P<job>\d+): (?P<cause>.+)")
 
 
 class Explained(NamedTuple):
@@ -54,27 +52,19 @@ def explained(plan, fault):
             return Explained(text, json_reading.no_utf8(data, text, plan.no_utf8))
         found = plan.no_json or _unknown(0)
         return Explained(text, json_reading.other_text(text, found.at) or found)
-    of_document, of_job, root = _OF_DOCUMENT.fullmatch(fault), _OF_JOB.fullmatch(fault), plan.root
-    if of_job:
-        jobs, number = root.get("jobs"), int(of_job["job"])
-        job = next(node for index, node in enumerate(jobs.items()) if index == number)
-        return Explained(text, _of_job(jobs, job, of_job["cause"]) or _unknown(job.at), number, _name_of(job))
-    found = DOCUMENT_FAULTS[of_document["cause"]](root) if of_document else None
-    return Explained(text, found or _unknown(root.at))
-
-
-def _of_job(jobs, job, cause):
-    kind, _, rest = cause.partition(": ")
-    of_part = {"schedule": schedule_fault, "script": script_fault}.get(kind)
-    return of_part(job, rest) if of_part else JOB_FAULTS[cause](jobs, job)
+    root, of_job = plan.root, re.fullmatch(r"job (\d+): (?:(\w+): )?(.+)", fault)
+    if not of_job:
+        found = DOCUMENT_FAULTS.get(fault.removeprefix("plan: "))
+        return Explained(text, found and found(root) or _unknown(root.at))
+    number, part, cause = of_job.groups()
+    job = next(itertools.islice(root.get("jobs").items(), int(number), None))
+    of_part = {"schedule": schedule_fault, "script": script_fault}.get(part)
+    found = of_part(job, cause) if of_part else JOB_FAULTS[cause](root.get("jobs"), job)
+    name = job.get("name") if job.kind == "object" else None
+    name = name.string() if name and name.kind == "text" else None
+    return Explained(text, found or _unknown(job.at), int(number), name)
 
 
 def _unknown(at):
     """The Cause of a fault that these rules don't find."""
     return Cause(at, 1, "the fault is in here")
-
-
-def _name_of(job):
-    """The name of a job, if it has one."""
-    name = job.get("name") if job.kind == "object" else None
-    return name.string() if name and name.kind == "text" else None

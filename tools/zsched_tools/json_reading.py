@@ -86,8 +86,7 @@ class Reading(Document):
             return self.end_of_container(at)
         if scalar := _ONE_SCALAR.match(self.text, at):
             return scalar.end()
-        number = _NUMBER.match(self.text, at)
-        if not number:
+        if not (number := _NUMBER.match(self.text, at)):
             raise FaultAt(no_value(self, at))
         if float(number[0]) in (float("inf"), float("-inf")):
             raise FaultAt(Cause(at, number.end() - at, "this number is too large for any reader of JSON",
@@ -118,11 +117,9 @@ class Reading(Document):
 
     def behind_key(self, at):
         """The place of the value whose key begins here."""
-        key = _KEY.match(self.text, at)
-        if not key:
+        if not (key := _KEY.match(self.text, at)):
             raise FaultAt(no_key(self, at))
-        colon = COLON.match(self.text, key.end())
-        if not colon:
+        if not (colon := COLON.match(self.text, key.end())):
             raise FaultAt(no_colon(self, at, key.end()))
         return colon.end()
 
@@ -268,8 +265,7 @@ def no_key(reading, at):
 def no_colon(reading, at, end):
     """No colon follows the key from `at` to `end`."""
     text, rest = reading.text, reading.skip(end)
-    mark = text[rest:rest + 1]
-    if not mark:
+    if not (mark := text[rest:rest + 1]):
         return _early_end(reading, rest)
     if mark == "=":
         return Cause(rest, 1, "this is =, but a colon is expected", "write :")

@@ -69,7 +69,6 @@ def told(name, text, cause, job=None):
 
 
 def unpainted(_, text):
-    """A text without colours."""
     return text
 
 

@@ -51,13 +51,8 @@ def not_of_kind(node, kind, what, help=""):
 
 def meant_for(key, known):
     """The known key that another key may mean, or None."""
-    if len(key) > 40:
-        return None
     plain = key.lower()
-    for meant in known:
-        if plain in _ALIASES[meant]:
-            return meant
-    return near(key, known)
+    return next((meant for meant in known if plain in _ALIASES[meant]), None) or near(key, known)
 
 
 def missing(node, key, where, known):
@@ -85,8 +80,7 @@ def _key_help(said, where, known):
     for owner, keys in _OWNERS:
         if said in keys:
             return f'"{said}" is a key of {owner}'
-    meant = meant_for(said, known)
-    if meant:
+    if meant := meant_for(said, known):
         return f'did you mean "{meant}"?'
     if said.lower() in ("retries", "attempts", "maxretries", "max_retries", "max_attempts"):
         return "a schedule counts: recurs(N), joined by && to the one that waits"
@@ -119,9 +113,7 @@ def _whole_help(node, key):
         return "write a whole number" + (", as 1: a code represents a cause" if key in ("ok", "err") else "")
     if node.kind == "null":
         return "write a whole number" + ("" if key in ("horizon", "ticks", "ms") else ", or leave the key out")
-    if node.kind in ("true", "false"):
-        return f"write {1 if node.kind == 'true' else 0}"
-    return "write a whole number"
+    return {"true": "write 1", "false": "write 0"}.get(node.kind, "write a whole number")
 
 
 def _number_help(source, key):
@@ -300,8 +292,7 @@ def name(job):
     help = f'write "{better}"' if better else "write a name of letters, digits, - _ and ."
     if not said:
         return over(node, "the name is empty", help)
-    odd = re.search(r"[^A-Za-z0-9._-]", said)
-    if odd:
+    if odd := re.search(r"[^A-Za-z0-9._-]", said):
         at = node.place_in(odd.start())
         what = "a name can't contain a space" if odd[0] == " " else f"a name can't contain {shown(odd[0])}"
         return Cause(at, node.place_in(odd.end()) - at, what, f"{help}: letters, digits, - _ and . are allowed")

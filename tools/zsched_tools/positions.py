@@ -9,14 +9,9 @@ import re
 MAX_WHOLE = 2**64 - 1
 
 
-def run_of(part):
-    """Zero or more parts in sequence, as many as match."""
-    return f"(?:(?>{part}))*+"
-
-
-def maybe(part):
-    """Zero or one part."""
-    return f"(?:(?>{part}))?+"
+# Zero or more parts in sequence, as many as match; and zero or one part.
+def run_of(part): return f"(?:(?>{part}))*+"
+def maybe(part): return f"(?:(?>{part}))?+"
 
 
 W = r"[ \t\n\r]*+"

@@ -49,13 +49,11 @@ class Spot(NamedTuple):
 
 def cause_of(text, fault):
     """The cause of 'no term at byte P' and 'number too large at byte P', else None."""
-    place = re.fullmatch(r"(no term|number too large) at byte ([0-9]+)", fault)
-    if not place:
+    if not (place := re.fullmatch(r"(no term|number too large) at byte ([0-9]+)", fault)):
         return None
     at = int(place[2]) if text.isascii() else len(text.encode()[:int(place[2])].decode())
     if place[1] == "number too large":
-        size = len(TOKEN.match(text, at)[0])
-        return Cause(at, size, said("too_large"), said("greatest"))
+        return Cause(at, len(TOKEN.match(text, at)[0]), said("too_large"), said("greatest"))
     spot = Spot(text, at, list(TOKEN.finditer(text, max(0, at - WINDOW), at)), text[at:at + WINDOW])
     if not spot.rest:
         return _ended(spot)
@@ -145,8 +143,7 @@ def _in_scala(spot, expected):
     """The cause of an argument in Scala's syntax, as _ < 5 or x => x + 1, else None."""
     if expected not in ("comparison", "pick", "function"):
         return None
-    part = re.match(r"(?:\w+ *=> *)?\w+\._([12])", spot.rest)
-    if part:
+    if part := re.match(r"(?:\w+ *=> *)?\w+\._([12])", spot.rest):
         return spot.cause(part.end(), "no_named", "only", text=f"_{part[1]}")
     found = re.match(r"\w+ *=> *(?:\w+ *)?|_ *(?![0-9])", spot.rest)
     help = "only_function" if expected == "function" else "only_comparison"
@@ -248,8 +245,7 @@ def _no_method(spot):
 
 
 def _no_number(spot):
-    zeros = re.match(r"0[0-9]+", spot.rest)
-    if zeros:
+    if zeros := re.match(r"0[0-9]+", spot.rest):
         return spot.cause(zeros.end(), "zeros", "write", text=shown(zeros[0].lstrip("0") or "0"))
     if spot.token() == ")":
         word = spot.last(2)

@@ -18,9 +18,11 @@ class Mended:
         self.pieces = []
 
     def replace(self, begin, end, text):
-        """Replaces a piece of the plan, between places of the plan; pieces inside of it are dropped."""
+        """Replaces a piece, between places of the mended text; pieces inside of it are dropped. Returns True."""
+        begin, end = self.place(begin), self.place(end - 1) + 1
         text += "\n" * self.text.count("\n", begin, end)
         self.pieces = sorted([it for it in self.pieces if it[1] <= begin or it[0] >= end] + [(begin, end, text)])
+        return True
 
     def made(self):
         parts, here = [], 0
@@ -67,7 +69,7 @@ def _mend(mended, plan, found):
     if found.job is not None:
         job = next(itertools.islice(plan.root.get("jobs").items(), found.job, None))
         good = {"name": f"mended.{found.job}", "mode": "retry", "schedule": "forever", "script": [{"ms": 1, "ok": 1}]}
-        return _replace(mended, job.at, job.end, json.dumps(good))
+        return mended.replace(job.at, job.end, json.dumps(good))
     if plan.root.kind != "object":
         return False
     members = list(plan.root.members())
@@ -79,13 +81,7 @@ def _mend(mended, plan, found):
                 comma = plan.text.rfind(",", 0, begin)
                 is_after = comma >= 0 and not plan.text[comma + 1:begin].strip()
                 begin, end = comma if is_after else begin, value.end
-            return _replace(mended, begin, end, "")
+            return mended.replace(begin, end, "")
         if value.at <= found.cause.at < value.end and name.string() in _GOOD:
-            return _replace(mended, value.at, value.end, _GOOD[name.string()])
+            return mended.replace(value.at, value.end, _GOOD[name.string()])
     return False
-
-
-def _replace(mended, begin, end, text):
-    """Replaces a piece of the mended text that wasn't replaced before."""
-    mended.replace(mended.place(begin), mended.place(end - 1) + 1, text)
-    return True
