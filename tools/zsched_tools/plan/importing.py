@@ -8,6 +8,7 @@ import argparse
 import array
 import bisect
 import collections
+import contextlib
 import io
 import itertools
 import json
@@ -116,16 +117,14 @@ class Requests:
         self.names, self.counts, self.begins, self.outcomes = [], array.array("L"), array.array("q"), []
         self.last, names, known = 0, Names(notes), {}
         first = min(log.begins)
-        for name in filter(is_allowed, dict.fromkeys(log.names)):
-            names.take(name)
+        names.taken.update(filter(is_allowed, set(log.names)))
         for name, calls in log.requests():
             if len(calls) > MOST_ENTRIES:
                 raise Refused(f'{log.path}:{log.word}{calls[MOST_ENTRIES].row}: "{shown(name)}" has more than '
                               f"{MOST_ENTRIES} attempts")
             for call, after in zip(calls, [*calls[1:], None]):
                 begin = call_log.in_ms(call.begin - first) if log.has_moments else 0
-                length = call.length
-                if length is None:
+                if (length := call.length) is None:
                     length = after.begin - call.begin if after else 1_000_000
                 ms, rest = divmod(length, 1_000_000)
                 if rest or not ms:
@@ -219,24 +218,8 @@ class Source(NamedTuple):
     name: str
     text: str
 
-    def refused(self, cause, job=None):
-        """The error of a Cause in the text."""
-        return Refused(told(self.name, self.text, cause, job))
 
-    def line(self, at):
-        """The line of a place in the text."""
-        return line_of(self.text, at)
-
-
-def _source(given):
-    try:
-        return Source(given.file, given.data.decode("utf-8-sig"))
-    except UnicodeDecodeError as fault:
-        line = given.data.count(b"\n", 0, fault.start) + 1
-        raise Refused(f"{given.file}:{line}: the text is not UTF-8") from None
-
-
-def _until(word):
+def until(word):
     """The horizon of a plan that has no horizon."""
     length = exact_milliseconds(word)
     if length is None or length.denominator != 1 or length > LAST_MOMENT:
@@ -244,27 +227,8 @@ def _until(word):
     return int(length)
 
 
-def add_command(forms):
-    """Adds the command to those of zsched-plan."""
-    given = forms.add_parser("from", description=ABOUT, epilog=EPILOG,
-                             help="a log (CSV) or a policy file (YAML, TOML) as a plan")
-    given.add_argument("file", metavar="FILE", help="the file; the end of its name says what it is. - is standard "
-                       "input: a log with --schedule, else a policy file")
-    given.add_argument("-o", dest="out", metavar="PLAN", help="the plan's file (standard output)")
-    given.add_argument("--until", type=_until, metavar="TIME",
-                       help="the horizon, if the file has no horizon (1h; 1h after the end of a log)")
-    log = given.add_argument_group("for a log")
-    log.add_argument("--schedule", metavar="TEXT", help="the schedule of each job; a log needs it")
-    log.add_argument("--mode", choices=["retry", "repeat"], default="retry", help="(retry)")
-    form = log.add_mutually_exclusive_group()
-    form.add_argument("--windows", action="store_true", help="a scenario for zsched-outage, not a plan")
-    form.add_argument("--by-attempt", action="store_true", help="the k-th attempt of a job ends as the k-th in the log")
-    call_log.add_options(log)
-    command.add_programs(given)
-    given.set_defaults(work=_from)
-
-
-def _from(given):
+def convert(given):
+    """Writes the plan of a file, or the scenario of a log."""
     suffix = pathlib.Path(given.file).suffix.lower()
     given.data = command.read("-") if given.file == "-" else None
     if given.data is None and suffix not in [*READERS, *LOGS]:
@@ -339,8 +303,8 @@ def _jobs(given, path, service, requests, horizon):
     """The jobs of the requests under the schedule, by the moments of their attempts."""
     decisions = Decisions(given.schedule, given.mode, program.find(given.zsched), find_library())
     too_long, rest, count = [], iter(requests), len(requests.names)
-    progress = Progress("zsched-plan", lambda done: f"decides: {done:,} requests of {count:,}")
-    try:
+    with contextlib.closing(Progress(
+            "zsched-plan", lambda done: f"decides: {done:,} requests of {count:,}")) as progress:
         while group := [(request, []) for request in itertools.islice(rest, TOGETHER)]:
             decisions.run(request.asked(service, given.mode, horizon, script) for request, script in group)
             for request, script in group:
@@ -348,8 +312,6 @@ def _jobs(given, path, service, requests, horizon):
                     too_long.append(request.name)
                 yield request.job(given.schedule, given.mode, script or [service.at(request.start)])
             progress.add(len(group))
-    finally:
-        progress.close()
     if too_long:
         _say(f"{plural(len(too_long), 'job')}, {too_long[0]} the first, have more than {MOST_ENTRIES} attempts: after "
              "these the last one repeats")
@@ -359,17 +321,21 @@ def _jobs(given, path, service, requests, horizon):
 
 def _of_policies(given, read):
     """The pieces of the plan of a policy file, and how many jobs it has."""
-    source, notes = _source(given), Notes()
+    notes = Notes()
     try:
+        source = Source(given.file, given.data.decode("utf-8-sig"))
         root = plan_of(read(source.text), HOUR if given.until is None else given.until, notes)
         plan = Written(root)
+    except UnicodeDecodeError as fault:
+        line = given.data.count(b"\n", 0, fault.start) + 1
+        raise Refused(f"{given.file}:{line}: the text is not UTF-8") from None
     except FaultAt as fault:
-        raise source.refused(fault.cause) from None
+        raise Refused(told(*source, fault.cause)) from None
     jobs = root.data.get("jobs")
     count = len(jobs.data) if jobs is not None and isinstance(jobs.data, list) else 0
     if count <= MOST_JOBS and len(plan.text.encode()) <= program.MAX_BYTES:
         check(source, plan, given.zsched, count)
-    _report(notes, given.file, source.line)
+    _report(notes, given.file, lambda at: line_of(source.text, at))
     return [plan.text], count
 
 
@@ -383,6 +349,6 @@ def check(source, plan, zsched, jobs=1):
         fault = faults.explained(faults.Plan(data), line)
         at, is_letter = plan.place(fault.cause.at)
         cause = fault.cause._replace(at=at, size=fault.cause.size if is_letter else 1)
-        raise source.refused(cause, fault.name)
+        raise Refused(told(*source, cause, fault.name))
     if status:
         raise OSError(f"{found}: {line or f'status {status}'}")

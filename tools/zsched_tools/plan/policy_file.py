@@ -12,7 +12,6 @@ from zsched_tools.policy.reading import documents
 
 # More than the longest plan has. An alias in a list of aliases may represent any number of values.
 MOST_VALUES = 5_000_000
-NESTED = "this is nested too deeply"
 
 _NUMBER = re.compile(r"-?(?:0|[1-9][0-9]*)(?:\.[0-9]+)?(?:[eE][+-]?[0-9]+)?")
 _BARE = r"[A-Za-z0-9_-]+"
@@ -53,11 +52,10 @@ def read_toml(text):
         what, line, column = _TOML_PLACE.fullmatch(str(fault)).groups()
         at = len(text)
         if line:
-            before = text.split("\n")[:int(line) - 1]
-            at = sum(len(row) + 1 for row in before) + int(column) - 1
+            at = sum(len(row) + 1 for row in text.split("\n")[:int(line) - 1]) + int(column) - 1
         raise FaultAt(Cause(min(at, len(text)), 1, f"not TOML: {what}")) from None
     except RecursionError:
-        raise FaultAt(Cause(0, 0, NESTED)) from None
+        raise FaultAt(Cause(0, 0, "this is nested too deeply")) from None
     return _value_of(text, _toml_places(text), tree, (), 0)
 
 

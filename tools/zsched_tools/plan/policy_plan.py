@@ -28,14 +28,10 @@ def whole(length, unit, place, notes):
 
 
 class Names:
-    """Names that a plan allows, made from any texts. No name is returned twice."""
+    """Names that a plan allows, made from any texts. No name is returned twice. `taken` are those in use."""
 
     def __init__(self, notes):
         self.notes, self.taken = notes, set()
-
-    def take(self, name):
-        """Notes that a name is used as it is."""
-        self.taken.add(name)
 
     def clean(self, said, place):
         """The name of a text."""
@@ -51,7 +47,6 @@ class Names:
 
 
 def is_allowed(name):
-    """Whether a plan allows a name."""
     return _ALLOWED.fullmatch(name) is not None
 
 
@@ -60,8 +55,7 @@ def duration(value, notes=None):
     With `notes` it is that of an attempt, which takes 1 at least."""
     if isinstance(value.data, bool) or not isinstance(value.data, (int, str)):
         return value
-    length = exact_milliseconds(str(value.data))
-    if length is None:
+    if (length := exact_milliseconds(str(value.data))) is None:
         return value
     if notes is None:
         return value if length.denominator != 1 else value._replace(data=int(length))
@@ -131,7 +125,7 @@ def _jobs(listed, defaults, notes):
             raise FaultAt(Cause(name.at, 1, what, "write another name"))
         found.add(name.data)
         if is_allowed(name.data):
-            names.take(name.data)
+            names.taken.add(name.data)
     return [_job(job, defaults, names) for job in listed]
 
 
