@@ -27,7 +27,6 @@ from zsched_tools.words import duration
 MOST_DELAYS = 240
 MOST_WAITS = 999
 _MASK = 2**64 - 1
-GREATEST_WAITS = "each wait has its greatest value"
 _NAME = re.compile(r" *([A-Za-z0-9._-]{1,64}) *: *")
 _CALL = re.compile(r"(?<![A-Za-z])(rand|jitter|delays|decorrelated|exponential)(?![A-Za-z]) *(?:\(([^()]*)\))?")
 _FORMS = {**TABLE["draws"], "decorrelated": "decorrelated(2000, 3)"}
@@ -58,19 +57,10 @@ def refuse(at, size, what, help="", **values):
     raise FaultAt(Cause(at, size, *(hints.said(it, **values) for it in (what, help))))
 
 
-def LOW(_):
-    """The least draws."""
-    return lambda number, least, most: least
-
-
-def HIGH(_):
-    """The greatest draws."""
-    return lambda number, least, most: most
-
-
-def RANGES(part):
-    """A text for each draw, by which two policies can be compared."""
-    return lambda number, least, most: f"{least}..{most} of {part}.{number}"
+# Sources of draws: the least, the greatest, and a text for each draw, by which two policies can be compared.
+def LOW(_): return lambda number, least, most: least
+def HIGH(_): return lambda number, least, most: most
+def RANGES(part): return lambda number, least, most: f"{least}..{most} of {part}.{number}"
 
 
 def _mixed(number):
@@ -187,8 +177,7 @@ class Policy:
         status, _, errors = program.report_of(zsched, program.one_job(0, schedule, '{"ms":1,"ok":0}'), 1)
         line = program.failure(status, errors)
         if status == REFUSED:
-            cause = schedule_rules.any_cause(schedule, line.partition("schedule: ")[2])
-            raise FaultAt(self.cause_at(source, cause))
+            raise FaultAt(self.cause_at(source, schedule_rules.any_cause(schedule, line.partition("schedule: ")[2])))
         if status:
             raise OSError(f"{zsched}: {line}")
 
@@ -343,7 +332,7 @@ def _of_file(text, called):
     left_out = line["left_out"]
     left_out += [f"that only these are retried: {', '.join(line['retries_on'])}"] if line["retries_on"] else []
     jitter = None if line["drawn"] else line["jitter"]
-    left_out += [f"{jitter['kind']} jitter: {GREATEST_WAITS}"] if jitter else []
+    left_out += [f"{jitter['kind']} jitter: each wait has its greatest value"] if jitter else []
     schedule, limits = line["drawn"] or line["schedule"], (line["attempt_timeout_ms"], line["deadline_ms"])
     return called or plain_name(line["name"]), schedule, limits, left_out, jitter
 
@@ -421,20 +410,18 @@ def every(policies):
 
 def check_schedule(tool, given):
     """Reads the schedule of a log's jobs, which may have sugar, and runs the program to check it. Returns it."""
-    found = program.find(given.zsched)
+    found, text = program.find(given.zsched), given.schedule
     try:
-        policy = Policy(given.schedule, found)
+        policy = Policy(text, found)
         policy.schedule(HIGH)
-    except FaultAt as fault:
-        raise Refused(told("--schedule", given.schedule, fault.cause)) from None
-    if policy.is_drawn and not getattr(given, "windows", tool == "zsched-follows"):
-        raise Refused("--schedule: a plan has no random waits; --windows makes a scenario, which has them")
-    if policy.is_drawn and tool == "zsched-follows" and policy.driven() is None:
-        raise Refused("--schedule: the waits of this schedule aren't between those of its least and its greatest draw")
-    policy.show(tool)
-    given.schedule = policy.source if policy.is_drawn else policy.spelled
-    try:
+        if policy.is_drawn and not getattr(given, "windows", tool == "zsched-follows"):
+            raise Refused("--schedule: a plan has no random waits; --windows makes a scenario, which has them")
+        if policy.is_drawn and tool == "zsched-follows" and policy.driven() is None:
+            raise Refused("--schedule: the waits of this schedule aren't between those of its least and its greatest "
+                          "draw")
+        policy.show(tool)
         policy.check(found)
     except FaultAt as fault:
-        raise Refused(told("--schedule", policy.text, fault.cause)) from None
+        raise Refused(told("--schedule", text, fault.cause)) from None
+    given.schedule = policy.source if policy.is_drawn else policy.spelled
     return policy

@@ -5,7 +5,7 @@ import re
 from dataclasses import dataclass
 
 from zsched_tools.reports import attempts_in, blocks_of, ending_in
-from zsched_tools.words import duration, plural
+from zsched_tools.words import duration, plural, shown
 
 WIDEST_RESULT = 30
 MOST_AFTER = 999
@@ -61,7 +61,6 @@ class Tried:
 
 
 def waits_between(attempts):
-    """The waits between attempts of a report."""
     return [int(after[0]) - int(before[1]) for before, after in itertools.pairwise(attempts)]
 
 
@@ -73,8 +72,7 @@ def tried_in(report):
         waits = waits_between(attempts)
         if how == "unfinished" and attempts:
             waits.append(at - int(attempts[-1][1] or at))
-        result = result if len(result) <= WIDEST_RESULT else result[:WIDEST_RESULT - 2] + ".."
-        yield Tried(how, result, at, len(attempts), sum(waits), max(waits, default=0))
+        yield Tried(how, shown(result, WIDEST_RESULT), at, len(attempts), sum(waits), max(waits, default=0))
 
 
 def as_object(policy, found, bounds):

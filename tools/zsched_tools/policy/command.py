@@ -123,8 +123,7 @@ def _here(one, other):
 
 
 def _first(blocks):
-    attempts = map(attempts_in, blocks)
-    for number, (one, other) in enumerate(itertools.zip_longest(*attempts), 1):
+    for number, (one, other) in enumerate(itertools.zip_longest(*map(attempts_in, blocks)), 1):
         if one is None or other is None:
             name, begin = ("A", one) if other is None else ("B", other)
             yield f"the first difference: only {name} makes attempt {number}, at {duration(int(begin[0]))}"
@@ -170,14 +169,12 @@ def _settings(one, other):
 
 def _diff(given):
     given.policies = [given.policies, given.other]
-    report = tried("zsched-policy", given)
-    if report is None:
+    if (report := tried("zsched-policy", given)) is None:
         return REFUSED
     found, bounds = list(tried_in(report)), bounds_of_all(given)
     lines = list(_differences(given, report, found, bounds))
     if given.json:
-        objects = map(as_object, given.read, found, bounds)
-        print(json.dumps({**dict(zip("ab", objects)), "differences": lines}))
+        print(json.dumps({**dict(zip("ab", map(as_object, given.read, found, bounds))), "differences": lines}))
         return NO if lines else 0
     for name, policy, result, bound in zip("AB", given.read, found, bounds):
         every = f"\n   {bounding.mark(bound)}{of_all(given, policy)}: {bound.line()}" if bound else ""
@@ -226,21 +223,17 @@ def _found(path):
     return [it for document in documents for finder in (services.find, libraries.find) for it in finder(document)]
 
 
-def _named(policies):
-    """The policies, each with a name that no other one has."""
-    used = {}
-    for policy in policies:
-        name = shown(policy.name, 200)
-        used[name] = used.get(name, 0) + 1
-        yield policy._replace(name=name if used[name] == 1 else f"{name}-{used[name]}")
-
-
 def policies_of(path):
-    """All policies of a file, each with its name."""
+    """All policies of a file, each with a name that no other one has."""
+    named, used = [], {}
     try:
-        return list(_named(_found(path)))
+        for policy in _found(path):
+            name = shown(policy.name, 200)
+            used[name] = used.get(name, 0) + 1
+            named.append(policy._replace(name=name if used[name] == 1 else f"{name}-{used[name]}"))
     except Wrong as wrong:
         raise Refused(f"{path}:{wrong.args[0]}: {wrong.args[1]}") from None
+    return named
 
 
 def names_of(policies):

@@ -61,7 +61,6 @@ def part(node, *names):
 
 
 def text_of(node):
-    """The text of a value, or None."""
     return node.data if node is not None and isinstance(node.data, str) else None
 
 
@@ -107,7 +106,6 @@ def number(node, least=0):
 
 
 def whole(node, least=0):
-    """A value as a whole number."""
     found = number(node, least)
     if found.denominator != 1:
         raise Wrong(node.line, f"{named(node)} is not a whole number")
@@ -115,7 +113,6 @@ def whole(node, least=0):
 
 
 def truth(node):
-    """A value as a truth value."""
     if str(node.data).lower() not in ("true", "false"):
         raise Wrong(node.line, f"{named(node)} is neither true nor false")
     return node.data.lower() == "true"

@@ -124,8 +124,7 @@ def _spring(node, names):
     fields.take("backoff" if inner is not None and inner.is_table() else "")
     known = next((SPRING[key] for key in SPRING if names.startswith(key)), None)
     attempts, first, factor, most = known or (*(default("spring-retry", it) for it in ["maxAttempts", "delay"]), 0, 0)
-    retries = fields.get(whole, "maxretries")
-    if retries is None:
+    if (retries := fields.get(whole, "maxretries")) is None:
         retries = fields.get(whole, "maxattempts", "attempts", default=attempts, least=1) - 1
     first = int(fields.get(duration, *FIRST, default=first, unit=1))
     most = int(fields.get(duration, *MOST, default=most, unit=1))

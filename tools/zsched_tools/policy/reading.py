@@ -18,7 +18,6 @@ MOST_BYTES = 2_000_000
 MOST_VALUES = 200_000
 DEEPEST = 100
 DEBIAN = "/usr/lib/python3/dist-packages"
-NO_YAML = "YAML needs PyYAML, and it isn't installed (Debian: python3-yaml; pip: PyYAML)"
 _PAIR = re.compile(r"((?:\\.|[^\\\s=:])+?)(\[[0-9]+\])?(?:\s*[=:]\s*|\s+|$)(.*)")
 _SECTION = re.compile(r"\s*\[\s*([^\]]*?)\s*\]\s*(?:[#;].*)?")
 _ASSIGNED = re.compile(r"(?:export\s+)?([A-Za-z_][\w.-]*)\s*=\s*(.*?)\s*(?:\s[#;].*)?")
@@ -103,7 +102,7 @@ def documents(text, make, deepest, most):
             yaml = importlib.import_module("yaml")
             break
     else:
-        raise OSError(NO_YAML)
+        raise OSError("YAML needs PyYAML, and it isn't installed (Debian: python3-yaml; pip: PyYAML)")
     try:
         return list(_Reader(yaml, text, make, deepest, most).documents())
     except yaml.MarkedYAMLError as fault:

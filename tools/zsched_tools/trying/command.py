@@ -242,8 +242,7 @@ def _run(tool, given, plan, first):
     """Runs a plan of the policies from the number `first` on, and returns the report. FaultAt has a fault. If the plan
     may have many attempts, a line on standard error says so before it runs."""
     zsched, jobs, status = program.find(given.zsched), plan.count(b'"script":['), 0
-    many = plan_size.warning(plan)
-    if many:
+    if many := plan_size.warning(plan):
         status, report, errors = program.report_of(zsched, plan_size.with_one_tick(plan), jobs)
     if not status:
         plan_size.warn(tool, many, given.color)
@@ -291,8 +290,7 @@ def work(given):
                      "--attempt and --require-end limit the whole call", TOOL)
     if given.over:
         return _work_over(given)
-    found = tried(TOOL, given, given.plan)
-    if found is None:
+    if (found := tried(TOOL, given, given.plan)) is None:
         return REFUSED
     if given.plan:
         print(found, end="")

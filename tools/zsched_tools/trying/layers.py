@@ -1,5 +1,6 @@
 """Policies over each other: an attempt of one is a whole call of the next one, and those of the last are the calls at
 the bottom."""
+import functools
 from dataclasses import replace
 from itertools import repeat
 from math import inf
@@ -40,18 +41,15 @@ class Layers:
     `entries` those of the calls at the bottom: all that are left are as the last one."""
 
     def __init__(self, zsched, given, limits, entries):
-        self.zsched, self.given, self.limits, self.entries, self.calls = zsched, given, limits, entries, {}
+        self.zsched, self.given, self.limits, self.entries = zsched, given, limits, entries
         self.names = job_names(given.read)
 
     def call(self, level=0, done=0):
         """A call of a layer, after so many calls at the bottom."""
         done = min(done, len(self.entries) - 1)
-        if level == len(self.names):
-            return Call(*self.entries[done])
-        if (level, done) not in self.calls:
-            self.calls[level, done] = self._called(level, done)
-        return self.calls[level, done]
+        return Call(*self.entries[done]) if level == len(self.names) else self._called(level, done)
 
+    @functools.cache
     def _called(self, level, done):
         inner = [self._cut(level, self.call(level + 1, done))]
         counts = [inner[0].bottom()]
@@ -74,8 +72,8 @@ class Layers:
         return call._replace(ms=limit, word="err", value=self.entries[0][2]) if limit and call.ms > limit else call
 
     def job(self, level, entries, name=None, start=None):
-        texts = ",".join(f'{{"ms":{ms},"{word}":{value}}}' for ms, word, value in entries)
-        return job_text(name or self.names[level], self.given.schedules[level], texts, "retry", start)
+        schedule = self.given.schedules[level]
+        return job_text(name or self.names[level], schedule, trials.entries_text(entries), "retry", start)
 
     def jobs(self, call, level=0, name="", start=0):
         """The jobs of a call and of those below it."""
