@@ -134,8 +134,7 @@ def write_files(folder, name, horizon, found):
     if len(plans) == 1:
         command.write(folder / f"{name}.json", plans[0])
     else:
-        lines = [f'{{"horizon":{horizon}}}', *jobs]
-        command.write(folder / f"{name}.jsonl", "".join(f"{line}\n" for line in lines))
+        command.write(folder / f"{name}.jsonl", "".join(f"{line}\n" for line in [f'{{"horizon":{horizon}}}', *jobs]))
     command.write(folder / f"{name}.report", joined(reports))
     command.write(folder / f"{name}.csv", figures.curve.csv())
 
@@ -185,8 +184,7 @@ def _all(given, scenario, zsched):
 def _exceeded(given, figures):
     if given.max_peak is not None:
         most, span = given.max_peak
-        peak = figures.curve.peak(span)
-        if peak is None:
+        if (peak := figures.curve.peak(span)) is None:
             yield "no attempt begins, so --max-peak compares nothing"
         elif peak[0] > most:
             yield f"{peak[0]:,} attempts in {duration(span)}, from {duration(peak[1])} on, over --max-peak {most:,}"
@@ -242,8 +240,7 @@ _count = command.number(0, 10**15 - 1, '"{}" is not a whole number')
 def _peak(word):
     """A number of attempts and the time within which they begin."""
     count, _, span = word.partition("/")
-    time = duration_argument(span or "1s")
-    if not time:
+    if not (time := duration_argument(span or "1s")):
         raise argparse.ArgumentTypeError(f'"{word}" has no time: write 500, or 50/100ms')
     return _count(count), time
 

@@ -6,7 +6,6 @@ from zsched_tools.outage.scenario import THOUSAND
 from zsched_tools.program import LAST_MOMENT
 from zsched_tools.words import WIDTH, duration, shown
 
-CSV_HEAD = "second,begun,ok,err,running"
 SHARES = [50, 95, 99]
 # The times of which a peak is the worst: the name in JSON, the length, and the words. None is a second of the clock.
 SPANS = [("100ms", 100, "in 100 ms"), ("second", THOUSAND, "in a second"), ("clock_second", None, "in a clock second")]
@@ -36,7 +35,8 @@ class Curve:
             yield second, begun, ok, err, running
 
     def csv(self):
-        return "".join(f"{line}\n" for line in [CSV_HEAD, *(",".join(map(str, row)) for row in self.rows())])
+        return "".join(f"{line}\n" for line in [
+            "second,begun,ok,err,running", *(",".join(map(str, row)) for row in self.rows())])
 
     def peak(self, span, since=0):
         """The most attempts, of those from a moment on, that begin within a time, and the first begin of such a time;
@@ -143,9 +143,10 @@ def policy_lines(figures):
         yield f"{name}: {shown(it.text, 10 * WIDTH)}"
 
 
-def _peak(found):
-    """A peak as a cell: its height, and when it begins."""
-    return "-" if found is None else f"{found[0]:,} at {seconds(found[1])}"
+# Cells: a peak with its height and its begin, a time, and a number of clients that may still rise.
+def _peak(found): return "-" if found is None else f"{found[0]:,} at {seconds(found[1])}"
+def _time(time): return "-" if time is None else duration(time)
+def _up_to(count, more): return f"{count:,}" + (f" to {count + more:,}" if more else "")
 
 
 def table(scenario, figures):
@@ -175,15 +176,6 @@ def table(scenario, figures):
         yield row("  out of budget", lambda it: _up_to(it.denied, it.unfinished))
     yield row("unfinished", lambda it: f"{it.unfinished:,}")
     yield row("certified", lambda it: it.certified())
-
-
-def _up_to(count, more):
-    """A number of clients that may still rise."""
-    return f"{count:,}" + (f" to {count + more:,}" if more else "")
-
-
-def _time(time):
-    return "-" if time is None else duration(time)
 
 
 def headline(scenario):

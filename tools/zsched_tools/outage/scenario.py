@@ -33,7 +33,6 @@ class Outcome(NamedTuple):
     value: int
 
     def entry(self):
-        """The outcome as an entry of a script."""
         return f'{{"ms":{self.ms},"{"ok" if self.is_ok else "err"}":{self.value}}}'
 
 
@@ -281,8 +280,7 @@ def _budget(node, outcomes):
 
 def _policies(node):
     """The name of each policy, with the policy and its place."""
-    parts = _members(node, "policies", None, [])
-    if not parts:
+    if not (parts := _members(node, "policies", None, [])):
         _refuse(node, "policies is empty", 'write {"NAME": "SCHEDULE"}, as {"backoff": "exponential(100)"}')
     for name, (key, value) in zip(parts, node.members()):
         if not re.fullmatch("[A-Za-z0-9_-][A-Za-z0-9._-]{0,63}", name):

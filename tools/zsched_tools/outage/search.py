@@ -35,8 +35,7 @@ def schedules_of(scenario, name, most=None):
     after = f".whileInput(!= {scenario.budget.code})" if scenario.budget else ""
     if not policy.is_drawn:
         return [policy.spelled + after] * len(scenario.starts)
-    clients = range(len(scenario.starts))
-    return [policy.schedule(seeded(scenario.seed, client), most) + after for client in clients]
+    return [policy.schedule(seeded(scenario.seed, client), most) + after for client in range(len(scenario.starts))]
 
 
 def shortest(kinds):

@@ -165,13 +165,10 @@ class Walk:
         self.outcomes = bytes(known.index(known[it]) if it < len(known) else it for it in UNDENIED)
         self.found = [bytearray() for _ in runs]
         self.endings = [None] * len(runs)
-        self._walk()
-
-    def _walk(self):
-        count = len(self.runs)
-        queue = [(2 * run.begins[0] + 1) * count + client for client, run in enumerate(self.runs) if run.begins]
+        count = len(runs)
+        queue = [(2 * run.begins[0] + 1) * count + client for client, run in enumerate(runs) if run.begins]
         heapq.heapify(queue)
-        for client, run in enumerate(self.runs):
+        for client, run in enumerate(runs):
             if not run.begins:
                 self._close(client, "unfinished", None, self.scenario.horizon)
         while queue:
