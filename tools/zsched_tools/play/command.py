@@ -31,15 +31,9 @@ LONGEST_REPORT = 8_000_000
 MOST_ATTEMPTS = 10**8
 LONGEST_SHOWN = 200_000
 PATIENCE = 30
-# A page has two policies.
-MOST_POLICIES = 2
 POLICY = ("default-src 'none'; script-src 'unsafe-inline'; style-src 'unsafe-inline'; img-src data:; "
           "connect-src 'self'; base-uri 'none'; form-action 'none'; frame-ancestors 'none'")
 PATHS = {"/": ["GET", "HEAD"], "/report": ["POST"]}
-
-
-class Late(Exception):
-    """The program wrote no report in time, and was killed."""
 
 
 def page(title="", engine="program"):
@@ -49,7 +43,8 @@ def page(title="", engine="program"):
 
 
 def run(zsched, plan, seconds):
-    """Runs the program on a plan: its status, the report's beginning, the report's size, and its standard error."""
+    """Runs the program on a plan: its status, the report's beginning, the report's size, and its standard error. If it
+    takes longer it is killed, and subprocess.TimeoutExpired is raised."""
     with tempfile.TemporaryFile() as report:
         words = {"stdin": subprocess.PIPE, "stdout": report, "stderr": subprocess.PIPE}
         with subprocess.Popen([zsched], **words) as child:
@@ -58,22 +53,22 @@ def run(zsched, plan, seconds):
                 _, errors = child.communicate(plan, timeout=seconds)
             except subprocess.TimeoutExpired:
                 child.kill()
-                raise Late from None
+                raise
         size = report.seek(0, 2)
         report.seek(0)
         return child.returncode, report.read(LONGEST_REPORT + 1), size, errors
 
 
 def every_input(bounds, asked):
-    """The bounds by this zsched-bounds of the policies that a page asks for, with its driver, and whether the program
-    was proved. A policy is a schedule and two percentages of its waits, or none. If the program fails, the report is
-    shown without bounds."""
+    """The bounds by this zsched-bounds of the policies, at most two, that a page asks for, with its driver, and whether
+    the program was proved. A policy is a schedule and two percentages of its waits, or none. If the program fails, the
+    report is shown without bounds."""
     try:
         read = json.loads(asked)
         least, most = read["attempt"]
         driver = bounding.Driver(most and (least, most), *read["waits"][2:])
         found = [it and bounding.run(bounds, [it[0]], driver, it[1:], SECONDS)[0].line()
-                 for it in read["policies"][:MOST_POLICIES]] if bounds else []
+                 for it in read["policies"][:2]] if bounds else []
         return {"bounds": found, "proved": bool(bounds) and program.is_proved(bounds)}
     except (OSError, ValueError, LookupError, TypeError, RecursionError, subprocess.TimeoutExpired):
         return {"bounds": []}
@@ -81,14 +76,13 @@ def every_input(bounds, asked):
 
 def answer(zsched, plan, seconds, bounds=None, asked=""):
     """What the page shows for the bytes of a plan: the report and what holds for every input, or the fault."""
-    many = plan_size.warning(plan, MOST_ATTEMPTS)
-    if many:
+    if many := plan_size.warning(plan, MOST_ATTEMPTS):
         return {"fault": {"field": "until", "cause": many, "help": SMALLER}}
     try:
         status, report, size, errors = run(zsched, plan, seconds)
         if status == 0 and size <= LONGEST_REPORT:
             program.check_report(zsched, report)
-    except Late:
+    except subprocess.TimeoutExpired:
         cause = f"no report within {seconds} seconds, so zsched was stopped"
         return {"fault": {"field": "until", "cause": cause, "help": SMALLER}}
     except OSError as fault:
@@ -174,8 +168,7 @@ class Handler(http.server.BaseHTTPRequestHandler):
 
     def do_GET(self):
         """Handles every method: sends the page, a report or an error. A rejected request's body is dropped."""
-        refusal = self.refusal()
-        if refusal is not None:
+        if (refusal := self.refusal()) is not None:
             self.give(refusal[0], "text/plain; charset=utf-8", f"zsched-play: {refusal[1]}\n".encode())
             self.drop_body()
         elif self.command == "POST":
@@ -215,10 +208,6 @@ class Handler(http.server.BaseHTTPRequestHandler):
         """Nothing is logged."""
 
 
-def stop(number, frame):
-    raise KeyboardInterrupt
-
-
 def serve(given):
     if given.html:
         return command.write(given.html, page(given.title, "page"))
@@ -229,7 +218,7 @@ def serve(given):
         raise command.Refused(f"port {given.port}: {fault.strerror}") from fault
     with server:
         try:
-            signal.signal(signal.SIGTERM, stop)
+            signal.signal(signal.SIGTERM, signal.default_int_handler)
             paint, found = command.Paint(given.color, sys.stdout), {"zsched": zsched, "bounds": bounds}
             print(json.dumps({"url": server.url()} | found) if given.json else
                   f"zsched-play: {paint('strong', server.url())}", flush=True)
