@@ -43,7 +43,6 @@ class Column(NamedTuple):
     word: str
 
     def refused(self, row, what):
-        """The error of a cell."""
         return Refused(f"{self.path}:{self.word}{row}: column {shown(self.name)}: {what}")
 
 

@@ -50,8 +50,7 @@ class Notes:
 
     def add(self, kind, place, text):
         """Adds a change. `place` is its place in the file."""
-        first = self.found.setdefault(kind, [place, text, 0])
-        first[2] += 1
+        self.found.setdefault(kind, [place, text, 0])[2] += 1
 
     def lines(self):
         """A line for each kind of change: its place and its text."""
@@ -156,7 +155,6 @@ class Reader:
         self.has_lengths = self.length is not None or None not in (self.begin, self.end)
 
     def _take(self, rows, notes, progress):
-        """Stores the attempts of the rows."""
         unit, known = self.given.unit, {}
         begin, end = (column and Moments(column, unit, notes) for column in (self.begin, self.end))
         length = None if None not in (begin, end) else self.length and Lengths(self.length, unit)
@@ -233,8 +231,7 @@ def _csv_rows(path, data, begin):
     mark = max(",;\t", key=first.count)
     rows = csv.reader(io.TextIOWrapper(file, "utf-8", newline=""), delimiter=mark, strict=True)
     try:
-        head = next(rows, [])
-        if not head:
+        if not (head := next(rows, [])):
             raise Refused(f"{path}:1: the file is empty")
         if mark not in first:
             raise Refused(f"{path}:1: one column: a log has commas, semicolons or tabs between its columns; tr '|' ',' "
@@ -285,8 +282,7 @@ def _json_rows(path, data):
             if is_lines and isinstance(document, dict):
                 head.update((name, "") for name, _ in _pairs(document))
             yield document
-    spans = spans_in(taken())
-    if spans:
+    if spans := spans_in(taken()):
         items, word = functools.partial(enumerate, spans, 1), "span "
     elif is_lines:
         items, word = documents, ""

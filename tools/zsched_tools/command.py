@@ -69,7 +69,6 @@ def _drop_output():
 
 
 def version():
-    """The version in the file VERSION."""
     for folder in _HERE.parents[1:3]:
         file = folder / "VERSION"
         if file.is_file():
@@ -137,9 +136,10 @@ def parser(tool, about, epilog=None):
 
 def add_version(parser):
     """Adds --version and --generate to a command's options."""
-    from zsched_tools.generated import add_generate
+    from zsched_tools.generated import FORMS, Generate
     parser.add_argument("--version", action="version", version=f"{parser.prog} {version()}")
-    add_generate(parser)
+    parser.add_argument("--generate", action=Generate, choices=list(FORMS), metavar="FORM",
+                        help="print completions for bash, zsh or fish, or the manual page (man)")
 
 
 def complete(parser):
@@ -157,7 +157,6 @@ def _add_common(parser, color, is_quiet):
 
 
 def add_programs(parser, has_bounds=False):
-    """Adds the options that name the programs."""
     parser.add_argument("--zsched", metavar="PATH", help="the program (ZSCHED, the built or the installed one)")
     if has_bounds:
         parser.add_argument("--bounds", metavar="PATH", help="zsched-bounds (ZSCHED_BOUNDS, the built or installed)")
@@ -245,7 +244,6 @@ def new_folder(path):
 
 
 def is_quiet():
-    """Whether --quiet is given."""
     return _quiet[0]
 
 

@@ -7,7 +7,6 @@ from zsched_tools.command import version
 # The names of arguments that are files or folders.
 FILES = {"FILE", "PATH", "LOG", "PLAN", "PLAN.json", "SCENARIO.json", "MANIFEST | PART"}
 FOLDERS = {"FOLDER", "DIR"}
-_WIDTH = 80
 
 
 class Generate(argparse.Action):
@@ -18,32 +17,25 @@ class Generate(argparse.Action):
         parser.exit()
 
 
-def add_generate(parser):
-    """Adds --generate to a command's options."""
-    parser.add_argument("--generate", action=Generate, choices=list(FORMS), metavar="FORM",
-                        help="print completions for bash, zsh or fish, or the manual page (man)")
-
-
 def _parsers(parser):
     """Each parser with the word that chooses it: that of the command itself, chosen by none, and those of its parts."""
     return [("", parser), *((word, one) for it in parser._actions if isinstance(it, argparse._SubParsersAction)
                             for word, one in it.choices.items())]
 
 
-def _options(parser):
-    return [it for it in parser._actions if it.option_strings]
-
-
 def _arguments(parser):
     return [it for it in parser._actions if not it.option_strings and not isinstance(it, argparse._SubParsersAction)]
 
 
-def _help(parser, action):
-    return _formatter(parser)._expand_help(action) if action.help else ""
+def _options(parser): return [it for it in parser._actions if it.option_strings]
+def _formatter(parser): return parser.formatter_class(parser.prog, width=80)
+def _help(parser, action): return _formatter(parser)._expand_help(action) if action.help else ""
 
 
-def _formatter(parser):
-    return parser.formatter_class(parser.prog, width=_WIDTH)
+# A text as each form has it. In a manual page no line of it is a command.
+def _zsh_text(text): return re.sub(r"([][:\\])", r"\\\1", text).replace("'", "'\\''")
+def _fish_text(text): return "'" + re.sub(r"(['\\])", r"\\\1", text) + "'"
+def _roff(text): return re.sub(r"^([.'])", r"\\&\1", text.replace("\\", "\\e").replace("-", "\\-"), flags=re.M)
 
 
 def _kind(action):
@@ -84,10 +76,6 @@ def bash(parser):
                 f"complete -o filenames -F {name} {parser.prog}"]
 
 
-def _zsh_text(text):
-    return re.sub(r"([][:\\])", r"\\\1", text).replace("'", "'\\''")
-
-
 def _zsh_specs(parser):
     """The options and arguments of a parser, as _arguments of zsh takes them."""
     found = {"files": "_files", "folders": "_files -/", "text": " "}
@@ -106,8 +94,7 @@ def _zsh_specs(parser):
 
 def zsh(parser):
     yield f"#compdef {parser.prog}"
-    words = _words(parser)
-    if not words:
+    if not (words := _words(parser)):
         yield " \\\n  ".join(["_arguments", *_zsh_specs(parser)])
         return
     described = " ".join(f'{word}\\:"{_zsh_text(help)}"' for word, help in words)
@@ -133,15 +120,6 @@ def fish(parser):
             yield f"{head}{when}{flags}{values} -d {_fish_text(_help(one, option))}"
         if any(_kind(it) == "files" for it in _arguments(one)):
             yield f"{head}{when} -F"
-
-
-def _fish_text(text):
-    return "'" + re.sub(r"(['\\])", r"\\\1", text) + "'"
-
-
-def _roff(text):
-    """A text for a manual page: no line of it is a command."""
-    return re.sub(r"^([.'])", r"\\&\1", text.replace("\\", "\\e").replace("-", "\\-"), flags=re.MULTILINE)
 
 
 def _paragraphs(*texts):

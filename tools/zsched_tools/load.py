@@ -65,8 +65,7 @@ class Load:
     def rows(self):
         """A row for each step: its first moment; the attempts that begin, succeed and fail in it; the attempts that
         run and the jobs that wait at its end."""
-        found = self.steps()
-        if found is None:
+        if (found := self.steps()) is None:
             return
         first, last = found
         running = jobs = 0

@@ -13,7 +13,6 @@ MOST_ATTEMPTS = 10**6
 # From which number of nodes on a schedule pays for more workers than one, and a batch of schedules for its thread.
 _NODES, _BATCH = 100, 4000
 _MOST_TICKS = 1000000
-_LEAST_MS = 1
 _COMPARE = {"<": operator.lt, "<=": operator.le, "=": operator.eq, "!=": operator.ne, ">": operator.gt,
             ">=": operator.ge}
 
@@ -115,7 +114,7 @@ def _attempts(job, clock):
     goes_on = "err" if job["mode"] == "retry" else "ok"
     script, time = job["script"], max(0, clock[-1] - job.get("start", 0))
     ends = next((number for number, entry in enumerate(script, 1) if goes_on not in entry), math.inf)
-    least = max(_LEAST_MS, min(entry["ms"] for entry in script))
+    least = max(1, min(entry["ms"] for entry in script))
     world = World(time, least, [entry.get(goes_on, 0) for entry in script])
     bound = schedule_rules.folded(job["schedule"], lambda piece: _leaf(piece, world), _joined,
                                   lambda piece, part: _behind(piece, part, world))

@@ -32,8 +32,7 @@ class NoProgram(Refused):
 def find(named=None):
     """The program's path: the given one, else that of the variable ZSCHED, else the last one that this tree built, else
     the one that was installed with these tools, else the one on PATH."""
-    found = find_beside("zsched", named)
-    if found is None:
+    if (found := find_beside("zsched", named)) is None:
         raise NoProgram("zsched is neither built (./run builds it) nor installed; --zsched PATH or ZSCHED names one")
     return found
 

@@ -30,7 +30,6 @@ class Progress:
         self.is_shown = False
 
     def add(self, number):
-        """Adds `number` finished items."""
         self.done += number
         if self.next != float("inf") and time.monotonic() >= self.next:
             self.next = time.monotonic() + EVERY

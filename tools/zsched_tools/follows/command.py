@@ -1,6 +1,7 @@
 """The command zsched-follows: whether a service's attempts, as its log has them, follow a policy, by the decisions of
 the library or of the program after each attempt."""
 import collections
+import contextlib
 import itertools
 import json
 import math
@@ -88,8 +89,8 @@ def differences(log, ends, given, counts):
     library = find_library()
     decisions = {it: Decisions(it, given.mode, given.zsched, library) for it in schedules}
     latest = max(map(sum, zip(log.begins, (length or 0 for length in log.lengths))))
-    requests, progress = log.requests(), Progress(TOOL, lambda done: f"compares: {done:,} requests")
-    try:
+    requests = log.requests()
+    with contextlib.closing(Progress(TOOL, lambda done: f"compares: {done:,} requests")) as progress:
         while group := [(name, calls[0].begin, _attempts(calls)) for name, calls in
                         itertools.islice(requests, TOGETHER)]:
             waits = {it: [[] for _ in group] for it in decisions}
@@ -104,8 +105,6 @@ def differences(log, ends, given, counts):
                     progress.close()
                 yield from found
             progress.add(len(group))
-    finally:
-        progress.close()
 
 
 def _attempts(calls):
