@@ -47,8 +47,7 @@ def libc_of(path):
     others = set(re.findall(r"^ +NEEDED +(\S+)", headers, re.M)) - LIBC
     if others:
         raise Refused(f"{path}: it needs libraries other than the C library: {', '.join(sorted(others))}")
-    versions = re.findall(r"\bGLIBC_(\d+)\.(\d+)", headers)
-    if not versions:
+    if not (versions := re.findall(r"\bGLIBC_(\d+)\.(\d+)", headers)):
         raise Refused(f"{path}: it names no version of the C library")
     return "{}.{}".format(*max((int(major), int(minor)) for major, minor in versions))
 

@@ -1,4 +1,4 @@
-"""The Rattle toolchain, and which crates crates.txt lists."""
+"""The Rattle toolchain, which crates crates.txt lists, and how a built file takes the place of another."""
 import dataclasses
 import os
 import pathlib
@@ -40,10 +40,16 @@ def crates_of(top):
 
 def kit():
     """The folder of the toolchain on this machine."""
-    command = shutil.which("rt")
-    if not command:
+    if not (command := shutil.which("rt")):
         raise Unusable("the Rattle toolchain (the command 'rt') isn't on this machine")
     return pathlib.Path(os.path.realpath(command)).parent.parent
+
+
+def replace(place, made):
+    """Replaces a file by a copy of another in one step: another process may run it, or make it too."""
+    new = place.with_name(f".{place.name}.{os.getpid()}")
+    shutil.copy(made, new)
+    new.replace(place)
 
 
 def sources_sum(crate=LIBRARY):

@@ -5,7 +5,6 @@ made of links, whose linker stores the program and then fails, and whose compile
 program ends with a mark, by which tools/zsched_tools/program.py and ./run know it wherever it is copied to."""
 import os
 import pathlib
-import shutil
 import signal
 import subprocess
 import sys
@@ -57,11 +56,8 @@ def build(folder, file, **variables):
             raise Unusable(said[-3000:])
         with open(program, "ab") as it:
             it.write(MARK)
-        # Another process may run the file, or build it too.
         file.parent.mkdir(exist_ok=True)
-        new = file.with_name(f".{file.name}.{os.getpid()}")
-        shutil.copy(program, new)
-        new.rename(file)
+        toolchain.replace(file, program)
 
 
 if __name__ == "__main__":
