@@ -39,8 +39,6 @@ MINUTES = {"proofs": 170, "survivors": 170, "tests": 60}
 # The checksums of the sources of the programs that ./run shows as proved once the gate passed over them.
 STAMPS = {name: TOP / "crates" / name / "out" / "proved" for name in ["zsched", "zsched_bounds"]}
 SIGNALS = [signal.SIGTERM, signal.SIGINT, signal.SIGHUP]
-# The `prctl` by which processes whose parent ended are below this one.
-SUBREAPER = 36
 
 
 def below():
@@ -148,7 +146,6 @@ def run(given, files, running):
 
 
 def table(parts, seconds):
-    """The table of times."""
     lines = [f"{'part':<12}{'seconds':>9}{'processor s':>13}{'passed':>8}{'failed':>8}"]
     lines += [f"{it.name:<12}{it.seconds:>9.0f}{it.processor:>13.0f}{it.passed:>8}{it.failed:>8}" for it in parts]
     return "\n".join([*lines, f"{'all':<12}{seconds:>9.0f}{sum(it.processor for it in parts):>13.0f}"])
@@ -178,7 +175,8 @@ def main(words):
         if shutil.which(command) is None:
             print(f"check: {what} (the command '{command}') isn't on this machine.", file=sys.stderr)
             return 127
-    ctypes.CDLL(None).prctl(SUBREAPER, 1)
+    # PR_SET_CHILD_SUBREAPER: processes whose parent ended are below this one.
+    ctypes.CDLL(None).prctl(36, 1)
     # `nohup` ignores one, which stays ignored.
     for it in SIGNALS:
         if signal.getsignal(it) != signal.SIG_IGN:

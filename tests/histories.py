@@ -6,7 +6,6 @@ import generator
 import reference
 from generator import seldom
 
-SCHEDULES = 2000
 NODES = [1, 1, 2, 2, 3, 3, 4, 5, 6, 7, 8, 10, 12, 16, 20, 30, 60]
 NUMBERS = {"no term": 11, "too big": 12, "number too large": 13, "factor is 0": 14, "no kind": 15, "window is 0": 16}
 KEEPS_LIST = "6,0,an output with a list has no state of fixed size"
@@ -18,26 +17,19 @@ class History:
     Each step visits 1 to `weight` nodes."""
 
     def __init__(self, text, pairs=()):
-        self.text, self.pairs, self.steps, self.weight = text, list(pairs), [], 0
-        self.fault = self.text_fault()
-        if not self.fault:
-            self.weight = reference.read_spelled(reference.Tokens(text)).weight
-            self.follow(reference.read_schedule(text))
-
-    def text_fault(self):
+        self.text, self.pairs, self.steps, self.weight, self.fault = text, list(pairs), [], 0, None
         try:
-            self.text.decode()
-            reference.read_schedule(self.text)
+            text.decode()
+            self.follow(reference.read_schedule(text))
         except UnicodeDecodeError as fault:
-            return f"4,{fault.start},not UTF-8 at byte {fault.start}"
+            self.fault = f"4,{fault.start},not UTF-8 at byte {fault.start}"
         except reference.Fault as fault:
-            text, _, at = str(fault).partition(" at byte ")
-            return f"{NUMBERS[text]},{at or 0},{fault}"
-        return None
+            said, _, at = str(fault).partition(" at byte ")
+            self.fault = f"{NUMBERS[said]},{at or 0},{fault}"
 
     def follow(self, schedule):
-        """Works out the steps, up to the first moment that falls."""
-        known = {}
+        """Works out the weight, and the steps up to the first moment that falls."""
+        self.weight, known = reference.read_spelled(reference.Tokens(self.text)).weight, {}
         for end, (moment, _) in enumerate(self.pairs, 1):
             if end > 1 and moment < self.pairs[end - 2][0]:
                 self.fault = FALLS
@@ -112,7 +104,7 @@ def made_history(seed):
 def histories():
     """Histories of which 2,000 have a state of fixed size; and those without a fault."""
     found, flat, seed = [], 0, 0
-    while flat < SCHEDULES:
+    while flat < 2000:
         found.append(made_history(seed))
         flat, seed = flat + found[-1].is_flat, seed + 1
     return found

@@ -401,7 +401,6 @@ def has_types(tree, types, *needed):
 
 
 def is_in_range(tree):
-    """Whether the numbers of a document are in range."""
     ticks = tree.get("ticks", [tree.get("horizon")])
     return (1 <= len(ticks) <= 1000000 and all(map(operator.lt, ticks, ticks[1:])) and ticks[-1] <= LAST_TICK
             and 1 <= tree.get("workers", 1) <= 64 and 1 <= tree.get("grain", 1) <= 10000 and len(tree["jobs"]) <= 10000)

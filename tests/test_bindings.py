@@ -335,8 +335,7 @@ def test_the_example_under_tokio_waits_for_its_server(library, tmp_path):
     folder, variables = crate(library, tmp_path)
     places = {"crates-io.replace-with": "debian", "debian.directory": CRATES}
     words = [word for name, place in places.items() for word in ["--config", f'source.{name}="{place}"']]
-    said = ran(["cargo", "run", "--quiet", "--offline", *words], folder / "tokio", **variables)
-    assert said == READY
+    assert ran(["cargo", "run", "--quiet", "--offline", *words], folder / "tokio", **variables) == READY
 
 
 @pytest.mark.full

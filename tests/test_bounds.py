@@ -17,8 +17,6 @@ from test_driven import Reached
 SHORT, EVERY = 100, int(os.environ.get("ZSCHED_LONG", "100"))
 # How many driven histories a policy has, and the steps of each.
 HISTORIES, HISTORY_STEPS = 3, 40
-# The most steps of histories of small policies.
-DEEP = 7
 INPUTS = [0, 1, 2, 3, 4, 5, 7, 404, 503, intervals.MOST]
 
 
@@ -79,7 +77,7 @@ def test_histories_and_bounds_of_small_policies_meet():
             continue
         text = f"({found[0]} && recurs({seed % 4}))" if seed % 4 else found[0]
         s, (least, most) = reference.read_schedule(text.encode()), durations
-        it = Reached(s, intervals.edges(text), ((least, most or least + 2), intervals.EXACT), DEEP, is_sampled=True)
+        it = Reached(s, intervals.edges(text), ((least, most or least + 2), intervals.EXACT), 7, is_sampled=True)
         b, beyond = intervals.bounds(s, durations, it.most), it.most + 1
         said = [min(b["attempts"]["least"], beyond), b["attempts"]["most"] or beyond]
         said += [b[key] for key in ("longest_wait", "total_wait", "longest_run")]

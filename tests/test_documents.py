@@ -114,8 +114,7 @@ def test_the_table_of_policies_has_the_figures_of_the_report():
 
 @pytest.mark.parametrize("section, job", list(zip(SECTIONS, JOBS)), ids=TITLES)
 def test_a_policy_has_its_schedule_and_the_part_of_each_setting(section, job):
-    said = re.search(r"^- Job `(.*?)`: `(.*)`$", section, re.MULTILINE)
-    assert said.groups() == (job["name"], job["schedule"])
+    assert re.search(r"^- Job `(.*?)`: `(.*)`$", section, re.M).groups() == (job["name"], job["schedule"])
     settings = re.findall(r"^\| `[^`]+`.* \| .+ \| `(.+)` \|$", section, re.MULTILINE)
     assert len(settings) >= 2
     assert [part for part in settings if part not in job["schedule"]] == []

@@ -14,7 +14,7 @@ from hypothesis import strategies as st
 import faults
 from generator import mutated
 from mistakes import MISTAKES, split
-from support import ONE_JOB, TOP, examples, job, plan, rows, run_here
+from support import TOP, examples, job, plan, rows, run_here
 from zsched_tools import hints, json_reading, plan_size, positions, program
 from zsched_tools.explain import all_faults, command
 

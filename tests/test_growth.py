@@ -64,14 +64,9 @@ def pairs(count, value=None):
     return [number for moment in range(count) for number in (moment, moment if value is None else value)]
 
 
-def table():
-    """The rows by their names."""
-    lines = (TOP / "tests" / "growth.tsv").read_text().splitlines()
-    for name, runs, size, most, made, *more in (it.split("\t") for it in lines if it[0] != "#"):
-        yield name, Row(runs, int(size), Cost(*map(float, most.split())), made, *map(float, more))
-
-
-ROWS = dict(table())
+LINES = [it.split("\t") for it in (TOP / "tests" / "growth.tsv").read_text().splitlines() if it[0] != "#"]
+ROWS = {name: Row(runs, int(size), Cost(*map(float, most.split())), made, *map(float, more))
+        for name, runs, size, most, made, *more in LINES}
 # The input of each program with no things.
 NOTHING = {"zsched": plan([]), "refusals": "jobs\n" + plan([]), "client": ""}
 

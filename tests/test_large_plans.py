@@ -11,7 +11,6 @@ from reference import LAST_TICK, M
 from support import difference, rows, run
 
 PATIENCE = 120
-LONGEST_PIECE = 1 << 20
 
 # Schedules that continue for long, some of which grow: leaves of each form, and operators over parts that grow.
 LEAVES, OPERATORS = rows("large_schedules.jsonl")
@@ -136,4 +135,4 @@ def test_a_report_of_100_000_bytes_goes_out_in_one_write(zsched):
         theirs.close()
         running.stdin.write(text)
         running.stdin.close()
-        assert list(iter(lambda: len(ours.recv(LONGEST_PIECE)), 0)) == [len(report)]
+        assert list(iter(lambda: len(ours.recv(1 << 20)), 0)) == [len(report)]

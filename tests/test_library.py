@@ -26,8 +26,7 @@ CODE = [14, 5, 500, 11, 8, 4, 12, 3, 2, 10, 100, 2, 5, 5000, 4, 8]
 
 
 def test_histories_have_all_faults_of_texts_and_many_steps():
-    faults = {it.fault.partition(",")[0] for it in histories() if it.fault}
-    assert faults == set("3 4 11 12 13 14 15 16".split())
+    assert {it.fault.partition(",")[0] for it in histories() if it.fault} == set("3 4 11 12 13 14 15 16".split())
     assert sum(len(it.steps) for it in histories() if it.is_flat) > 20_000
     assert sum(bool(it.steps) and not it.is_flat for it in histories()) > 100
 

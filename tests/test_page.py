@@ -273,16 +273,13 @@ def test_letters_are_readable_on_each_ground_by_day_and_at_night():
     themes = [dict(re.findall(r"--(\w+): (#[0-9a-f]+);", block))
               for block in re.findall(r":root \{(.*?)\}", hints.piece("drawing-style"), re.S)]
     for colors in themes:
-        for ink in ["ink", "soft", "green", "red"]:
+        light = {name: brightness(color) + 0.05 for name, color in colors.items()}
+        for name in ["ink", "soft", "green", "red", "ok", "err"]:
             for ground in ["page", "band", "down"]:
-                low, high = sorted([brightness(colors[ink]), brightness(colors[ground])])
-                assert (high + 0.05) / (low + 0.05) >= 4.5, (ink, ground, colors)
-        # An area of errors is darker than one of successes, whatever the hue, and both differ from each ground.
-        assert (brightness(colors["ok"]) + 0.05) / (brightness(colors["err"]) + 0.05) >= 2
-        for area in ["ok", "err"]:
-            for ground in ["page", "band", "down"]:
-                low, high = sorted([brightness(colors[area]), brightness(colors[ground])])
-                assert (high + 0.05) / (low + 0.05) >= 3, (area, ground, colors)
+                low, high = sorted([light[name], light[ground]])
+                assert high / low >= (3 if name in ["ok", "err"] else 4.5), (name, ground, colors)
+        # An area of errors is darker than one of successes, whatever the hue.
+        assert light["ok"] / light["err"] >= 2
     assert len(themes) == 2 and "::placeholder { color: var(--soft); opacity: 1; }" in TEXT
     assert min(int(size) for size in re.findall(r"font(?:-size)?: (?:600 )?(\d+)px", TEXT)) >= 11
 

@@ -98,8 +98,7 @@ def marked(request, bounds, tmp_path):
 
 
 def test_bounds_of_an_unproved_program_say_so(zsched, marked):
-    found = command.answer(zsched, question("recurs(3)"), 10, marked[0], wanted([]))
-    assert found["proved"] is not bool(marked[1])
+    assert command.answer(zsched, question(), 10, marked[0], wanted([]))["proved"] is not bool(marked[1])
 
 
 # The status of the program of bounds, or null for none, the policies, and what is said of them.

@@ -376,24 +376,20 @@ def test_jitter_and_sleeps_that_end_early_are_within_the_bounds(zsched, retrying
     assert bounds.least <= len(attempts) <= bounds.most and clock.seconds < 102.1
 
 
-class Falling(Clock):
-    """A clock that falls to a moment before its start in the first sleep."""
+def test_a_clock_that_falls_makes_no_attempt_more(zsched, clock):
+    moments = []
 
-    def sleep(self, seconds):
-        super().sleep(seconds)
-        if len(self.slept) == 1:
-            self.seconds -= 60
-
-
-def test_a_clock_that_falls_makes_no_attempt_more(zsched):
-    clock, moments = Falling(), []
+    def sleep(seconds):
+        clock.sleep(seconds)
+        # In the first sleep it falls to a moment before its start.
+        clock.seconds -= 60 * (len(clock.slept) == 1)
 
     def effect():
         moments.append(round(clock.seconds - 100, 3))
         clock.seconds += 0.005
         raise OSError
     with pytest.raises(OSError):
-        zsched.retrying("(spaced(30) && recurs(3))", clock=clock, sleep=clock.sleep)(effect)()
+        zsched.retrying("(spaced(30) && recurs(3))", clock=clock, sleep=sleep)(effect)()
     # The second attempt begins at 5 ms and counts from its planned begin, 35 ms, for 1 ms: the next begins at 66 ms.
     assert [round(it, 6) for it in clock.slept] == [0.03, 0.056, 0.03] and moments == [0, -59.965, -59.904, -59.869]
 
@@ -411,8 +407,7 @@ def test_statistics_are_of_all_calls_and_options_can_be_others(retrying, clock):
 
 
 def test_a_call_that_does_not_fail_takes_less_than_5_microseconds(zsched):
-    tried = zsched.retrying(POLICY)(int)
-    assert min(timeit.repeat(tried, number=1000, repeat=100)) < 0.005
+    assert min(timeit.repeat(zsched.retrying(POLICY)(int), number=1000, repeat=100)) < 0.005
 
 
 @pytest.mark.parametrize("name, found", [

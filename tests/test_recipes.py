@@ -98,8 +98,6 @@ def test_a_command_prints_what_is_shown(files, command, shown, zsched, tmp_path)
 
 # What the letters of the tables represent: d, e, k and N, several times.
 LETTERS = [(25, 40, 3, 6), (6, 9, 1, 10), (4, 70, 5, 0)]
-JOBS = 6
-HORIZON = 1500
 
 
 def rows():
@@ -163,11 +161,11 @@ def test_the_same_has_the_outputs_and_decisions_of_zio(name, zsched):
         parts = parts_of(name, numbers[2])
         texts = dict(zip("dekN", map(str, numbers))) | {letter: it.text for letter, it in parts.items()}
         text = re.sub(r"\b[sabdekN]\b", lambda found: texts[found[0]], SAME[name].strip("`"))
-        for mode, key in [("retry", "err"), ("repeat", "ok")] * (JOBS // 2):
+        for mode, key in [("retry", "err"), ("repeat", "ok")] * 3:
             letters = dict(zip("dekn", numbers)) | {letter: it.model for letter, it in parts.items()}
             models.append(eval(DEFINITIONS[name], {**vars(zio), **letters}))
             jobs.append({"name": f"j{len(jobs)}", "mode": mode, "schedule": text, "script": script_of(chance, key)})
-    status, report, errors = run(zsched, json.dumps({"horizon": HORIZON, "jobs": jobs}).encode())
+    status, report, errors = run(zsched, json.dumps({"horizon": 1500, "jobs": jobs}).encode())
     assert (status, errors) == (0, b"")
     for model, job, ran in zip(models, jobs, jobs_of(report), strict=True):
         assert ran.steps and first_difference(model, ran.steps) is None, job

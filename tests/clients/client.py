@@ -154,15 +154,12 @@ def good(form, text, count):
     async def later():
         for number in range(count):
             await same_later(number)
-
-    def now():
-        for number in range(count):
-            same(number)
     begun = time.perf_counter_ns()
     if form == "later":
         asyncio.run(later())
     else:
-        now()
+        for number in range(count):
+            same(number)
     return [(time.perf_counter_ns() - begun) // count]
 
 
