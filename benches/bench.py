@@ -29,9 +29,11 @@ from zsched_tools import program
 BASELINE = HERE / "baseline" / "target" / "release" / "baseline"
 NAMES = ["zsched", "baseline"]
 RUNS = 5
-# How many times the baseline's quantities zsched's may be, and exceptions by plan and quantity.
-AIM, AIM_OF_SINGLE_POLLS = 1.25, 1.8
-AIMS = {("large_plan", "memory"): 1.4, ("long_schedules", "memory"): 2.0}
+# How many times the baseline's quantities zsched's may be: instructions and wall time by plan, memory, and exceptions.
+AIM, MEMORY = 1.25, {"large_plan": 1.4, "long_schedules": 2.0}
+AIMS = {"parentheses": 1.3, "million_ticks": 1.3, "one_job": 1.35, "resets": 1.35, "scattered_timers": 1.45,
+        "wide_999": 1.45, "collect_written": 1.45, "collect_counted": 1.45, "rounds_2_1": 1.75, "jobs_4_1": 1.9}
+AIM_OF_JOBS = 1.45
 # Exit statuses of a report, and of a rejected plan.
 ENDED = [0, 2]
 
@@ -80,8 +82,8 @@ def cells(pair, scale, digits):
 
 def judged(name, pairs):
     """The aims of a plan as a text, and which of its pairs miss them."""
-    aim = AIM_OF_SINGLE_POLLS if name.endswith("_4_1") else AIM
-    aims = {what: AIMS.get((name, what), aim) for what in pairs if what != "processor"}
+    aim = AIMS.get(name, AIM_OF_JOBS if name.startswith("jobs_") else AIM)
+    aims = {what: MEMORY.get(name, AIM) if what == "memory" else aim for what in pairs if what != "processor"}
     missed = [what for what, most in aims.items() if pairs[what] and ratio(pairs[what]) > most]
     others = [f"{what} {most}" for what, most in aims.items() if most != aim]
     return [", ".join([str(aim), *others]), f"missed: {', '.join(missed)}" if missed else "reached"]

@@ -1,4 +1,4 @@
-"""The files of the library as they are installed: header, library, pkg-config and CMake."""
+"""The files of the library as they are installed: headers, library, pkg-config and CMake."""
 import pathlib
 import re
 import subprocess
@@ -15,13 +15,18 @@ SONAME = re.search(r"^soname (\S+)$", ABI, re.M)[1]
 # The soname's number, which the Debian package of the shared library has too.
 NUMBER = SONAME.rpartition(".")[2]
 FUNCTIONS = re.findall(r"^function (\S+) (\S+)$", ABI, re.M)
+# The headers, each where it is installed and where it is in the tree.
+HEADERS = {"zsched.h": "include/zsched.h", "zsched/retry.h": "bindings/c/retry.h"}
+# How C is compiled, and what is no part of a program: the names of its compilers.
+C = ["-O2", "-Wall", "-Wextra", "-Werror"]
+SECTIONS = ["--remove-section=.comment", "--remove-section=.note"]
 PC = """\
 prefix={prefix}
 libdir=${{prefix}}/{libdir}
 includedir=${{prefix}}/include
 
 Name: zsched
-Description: Retries by proved schedules
+Description: Retries by schedules of ZIO 2's kind
 Version: {version}
 Libs: -L${{libdir}} -lzsched
 Cflags: -I${{includedir}}
@@ -99,9 +104,10 @@ def put_shared(root, libdir, shared):
 
 
 def put_development(root, prefix, libdir, archive):
-    """The files for building programs: header, archive, the linker's link, and those for pkg-config and CMake."""
+    """The files for building programs: headers, archive, the linker's link, and those for pkg-config and CMake."""
     base = root / prefix.strip("/")
-    put(base / "include" / "zsched.h", (TOP / "include" / "zsched.h").read_bytes())
+    for name, source in HEADERS.items():
+        put(base / "include" / name, (TOP / source).read_bytes())
     put(base / libdir / "libzsched.a", archive.read_bytes())
     link(base / libdir / "libzsched.so", SONAME)
     put(base / libdir / "pkgconfig" / "zsched.pc", PC.format(prefix=prefix, libdir=libdir, version=version()))

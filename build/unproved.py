@@ -1,8 +1,8 @@
 """Builds the program of a crate, or that of a library's tests, without any proof: unproved.py CRATE FILE.
 
 The toolchain's `rt try` builds such a program, runs it and removes it. So `rt try` runs in a copy of the toolchain,
-made of links, whose linker stores the program and then fails, and whose compiler leaves out checks at run time. Each
-program ends with a mark, by which tools/zsched_tools/program.py and ./run know it wherever it is copied to."""
+made of links, whose linker stores the program and then fails, and whose compiler leaves out checks at run time. No such
+program has the section by which tools/zsched_tools/proved.py knows a proved one."""
 import os
 import pathlib
 import signal
@@ -26,24 +26,19 @@ case " $* " in *" --extern-only "* | *" --undefined-only "*) exec -a llvm-nm "{k
 for word; do case "$word" in -fsanitize=address) ;; -O0) words+=({level}) ;; *) words+=("$word") ;; esac; done
 exec "{kit}/toolchain/bin/clang" "${{words[@]}}"
 """
-MARK = b"\nunproved\n"
 
 
 def build(folder, file, **variables):
     """Builds the program of the crate in a folder, or that of its tests if it is a library, into a file."""
     kit = toolchain.kit()
+    file.parent.mkdir(exist_ok=True)
     words, level = (["--test"], "-O0") if (folder / "src" / "lib.rt").exists() else ([], "-O1")
     with tempfile.TemporaryDirectory() as room:
         copy, program = pathlib.Path(room, "kit"), pathlib.Path(room, "program")
-        copy.mkdir()
-        subprocess.run(["cp", "-rs", *[kit / it for it in ["bin", "c", "toolchain"]], copy], check=True)
-        subprocess.run(["ln", "-s", *[kit / it for it in ["rattle", "rlibs", "logic_built"]], copy], check=True)
-        for name, text in [("toolchain/bin/ld.lld", LINKER.format(kit=kit, program=program)),
-                           ("toolchain/bin/clang", COMPILER.format(kit=kit, level=level)), ("c/asan.a", "!<arch>\n"),
-                           ("bin/rattle", "#!/bin/sh\n"), ("bin/rt", None), ("bin/rtlib.py", None)]:
-            (copy / name).unlink()
-            (copy / name).write_text(text or (kit / name).read_text())
-            (copy / name).chmod(0o755)
+        toolchain.linked_kit(copy, {
+            "toolchain/bin/ld.lld": LINKER.format(kit=kit, program=program),
+            "toolchain/bin/clang": COMPILER.format(kit=kit, level=level), "c/asan.a": "!<arch>\n",
+            "bin/rattle": "#!/bin/sh\n"})
         with subprocess.Popen([copy / "bin/rt", "try", *words], cwd=folder, stdin=subprocess.DEVNULL, errors="replace",
                               stdout=subprocess.PIPE, stderr=subprocess.STDOUT,
                               env={**os.environ, "TMPDIR": room, **variables}) as running:
@@ -54,9 +49,6 @@ def build(folder, file, **variables):
                 running.terminate()
         if not program.exists():
             raise Unusable(said[-3000:])
-        with open(program, "ab") as it:
-            it.write(MARK)
-        file.parent.mkdir(exist_ok=True)
         toolchain.replace(file, program)
 
 
@@ -64,5 +56,5 @@ if __name__ == "__main__":
     signal.signal(signal.SIGTERM, lambda number, _: sys.exit(128 + number))
     try:
         build(TOP / "crates" / sys.argv[1], pathlib.Path(sys.argv[2]).resolve())
-    except Unusable as fault:
+    except (Unusable, OSError, subprocess.SubprocessError) as fault:
         sys.exit(str(fault))

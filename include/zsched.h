@@ -7,11 +7,11 @@
  * that plans by other means. zs_bounds returns what a schedule does for every input.
  *
  * No call stores anything. Programs and states may be copied, shared by threads that only read them, and stored as bytes for
- * machines of the same byte order. A program has a version and a check word over itself, which each of its states has too, so
- * zeroed, older and changed words and another program's state are rejected. The words after the first of a state don't show
- * from which steps they come. For a state that was changed there, or a program that was changed on purpose, with a check word
- * that fits, the only promise is that a call returns, reads and writes nothing but what is passed to it, and leaves the state's
- * first word and the words after the state.
+ * machines of the same byte order. A program has a version and a check word over itself. A state has a version and its
+ * program's check word. So zeroed, older and changed words and another program's state are rejected. The words after the first
+ * two of a state don't show from which steps they come. For a state that was changed there, or a program that was changed on
+ * purpose, with a check word that fits, the only promise is that a call returns, reads and writes nothing but what is passed to
+ * it, and leaves the state's first two words and the words after the state.
  *
  * Link libzsched.a or libzsched.so, which build/make-library builds; both need only the C library. docs/LIBRARY.md says what
  * is proved of these calls.
@@ -21,7 +21,8 @@
  *     is 0, the pointer may be NULL. A pointer with no number beside it is never NULL.
  *   - What a call writes overlaps nothing else that is passed to it, and no other thread writes to any of it during the call.
  *   - No call comes from a signal handler, or from a forked child of a process with threads. 64 KiB of stack are free (the
- *     deepest schedule took 55), for zs_bounds 192 KiB (it took 164).
+ *     deepest schedule took 55), for zs_bounds 192 KiB (it took 164). A thread of musl has 128 KiB, unless its attributes say
+ *     another size, or the program is linked with -Wl,-z,stack-size=262144.
  *
  * Any number of threads may call at once: calls share nothing but malloc, realloc and free. Each call frees what it
  * allocated. A name that ends with _ms has whole milliseconds, and one with _ns nanoseconds, both unsigned, of 64 bits.
@@ -40,7 +41,7 @@
 
 /* No program, and no state, has more words than this. */
 #define ZS_PROGRAM_MOST 4004
-#define ZS_STATE_MOST 4004
+#define ZS_STATE_MOST 4005
 
 /* No text of zs_strerror has more bytes than this, with its final 0. */
 #define ZS_TEXT_MOST 80
@@ -72,7 +73,7 @@ enum zs_status {
     ZS_KEEPS_LIST = 6,  /* zs_program_size, zs_compile: the output has a list, by collectAll, so the state would grow */
     ZS_NO_ROOM = 7,     /* calls over a program: a length is below the size from zs_program_size */
     ZS_NO_PROGRAM = 8,  /* calls over a program: no program of this version, or one that was changed */
-    ZS_OTHER_STATE = 9, /* the words are the state of another program, or of none */
+    ZS_OTHER_STATE = 9, /* the words are the state of another program */
     ZS_NO_DRIVER = 10,  /* zs_bounds: no driver does what *driver says */
     ZS_NO_TERM = 11,    /* the text spells no schedule, found at the byte *at */
     ZS_TOO_BIG = 12,    /* the schedule is deeper than 64 or weighs more than 1000 */
@@ -80,7 +81,8 @@ enum zs_status {
     ZS_BAD_FACTOR = 14, /* the factor of an exponential is 0 */
     ZS_NO_KIND = 15,    /* a pick or a function doesn't fit the output that it is applied to */
     ZS_BAD_WINDOW = 16, /* the window of a windowed is 0 */
-    ZS_OTHER_SIZE = 17  /* the `size` of a struct isn't that of this version */
+    ZS_OTHER_SIZE = 17, /* the `size` of a struct isn't that of this version */
+    ZS_OTHER_VERSION = 18 /* the first word isn't that of the states of this version */
 };
 
 /* Each struct begins with its size in bytes, which its caller sets, so that later versions may have more fields. */
@@ -110,9 +112,9 @@ typedef struct zs_run_bounds {
     uint64_t most;            /* no attempt after this one is made; it is `seen` */
     uint64_t longest_ms;      /* the longest wait after the first `seen` attempts, which take 1 ms or more */
     uint64_t has_total;       /* 1 if total_ms is a bound, else 0 */
-    uint64_t total_ms;        /* all waits of a run together, at most; after a shorter attempt a wait may be 1 ms longer */
+    uint64_t total_ms;        /* all waits are less than 1 ms above it; after a shorter attempt a wait may be 1 ms longer */
     uint64_t has_longest_run; /* 1 if longest_run_ms is a bound, else 0 */
-    uint64_t longest_run_ms;  /* each attempt ends at most this long after the begin of the first */
+    uint64_t longest_run_ms;  /* each attempt ends less than this after the begin of the first, to the nanosecond */
 } zs_run_bounds;
 
 #define ZS_RUN_BOUNDS { sizeof(zs_run_bounds), 0, 0, 0, 0, 0, 0, 0, 0, 0 }
@@ -150,7 +152,7 @@ enum zs_status zs_bounds(const char *text, size_t text_len, const zs_driver *dri
                          zs_run_bounds *ZS_ALONE bounds, uint64_t *ZS_ALONE at);
 
 /* The numbers of words of the program of a text's schedule, and of its state: ZS_OK. Otherwise ZS_KEEPS_LIST, or what zs_check
- * returns for the text, with its place; both are then 0. Each is at most 4 for each node of the schedule, and four more. */
+ * returns for the text, with its place; both are then 0. Each is at most 4 for each node of the schedule, and five more. */
 ZS_CALL ZS_POINTERS((3, 4, 5))
 enum zs_status zs_program_size(const char *text, size_t text_len, size_t *ZS_ALONE size, size_t *ZS_ALONE state_size,
                                uint64_t *ZS_ALONE at);
@@ -169,8 +171,8 @@ enum zs_status zs_program_begin(const uint64_t *program, size_t program_len, uin
 /* Steps a program at the end of a loop's attempt, and plans the next one, over a state that zs_program_begin wrote and zs_plan
  * continued: ZS_OK, and the next attempt may begin at *begin_ns, counted as in *turn; or ZS_DONE, and the loop gives up,
  * because the schedule is done, or because *begin_ns would be above 18446744073709551615. Otherwise the first that applies of
- * ZS_OTHER_SIZE, ZS_NO_PROGRAM, ZS_NO_ROOM, ZS_OTHER_STATE and ZS_FALLS, and the words are unchanged; ZS_FALLS comes only after
- * ZS_DONE or a zs_program_step. *begin_ns is 0 unless ZS_OK is returned.
+ * ZS_OTHER_SIZE, ZS_OTHER_VERSION, ZS_NO_PROGRAM, ZS_NO_ROOM, ZS_OTHER_STATE and ZS_FALLS, and the words are unchanged;
+ * ZS_FALLS comes only after ZS_DONE or a zs_program_step. *begin_ns is 0 unless ZS_OK is returned.
  *
  * The schedule is stepped at the attempt's end, in whole milliseconds, but at least 1 ms after the begin that was planned for
  * it. *begin_ns isn't before the attempt's end. Without jitter it isn't before the schedule's moment. With jitter at least
@@ -178,7 +180,7 @@ enum zs_status zs_program_begin(const uint64_t *program, size_t program_len, uin
  *
  * A loop makes at most `most` attempts, if that is a bound for a driver with such jitter and least waits: whatever its clock
  * does, and whenever its attempts begin and end. If they begin at *begin_ns or little later, and take as long as the driver
- * says, the last one ends within the driver's longest run.
+ * says, each ends less than the driver's longest_run_ms after the first began.
  *
  * A state may be stored; later turns count from the same first begin. zs_program_step leaves the planned begin as it is. */
 ZS_CALL ZS_POINTERS((5, 6))
@@ -187,14 +189,14 @@ enum zs_status zs_plan(const uint64_t *program, size_t program_len, uint64_t *ZS
 
 /* One more step of a program, at a moment of the caller's clock: ZS_OK, and the next attempt may begin at *next_ms; or ZS_DONE.
  * The words are then the state after this step, and *visits is the number of nodes of the schedule that it visited, 1 to 1000.
- * Otherwise the first that applies of ZS_NO_PROGRAM, ZS_NO_ROOM, ZS_OTHER_STATE and ZS_FALLS; the words are then unchanged, and
- * *visits is 0. *next_ms is 0 unless ZS_OK is returned. */
+ * Otherwise the first that applies of ZS_OTHER_VERSION, ZS_NO_PROGRAM, ZS_NO_ROOM, ZS_OTHER_STATE and ZS_FALLS; the words
+ * are then unchanged, and *visits is 0. *next_ms is 0 unless ZS_OK is returned. */
 ZS_CALL ZS_POINTERS((7, 8))
 enum zs_status zs_program_step(const uint64_t *program, size_t program_len, uint64_t *ZS_ALONE state, size_t state_len,
                                uint64_t moment_ms, uint64_t input, uint64_t *ZS_ALONE next_ms, uint64_t *ZS_ALONE visits);
 
 /* The text of the output of the last step ("3", "(400,2)", "Left(7)"; ASCII): ZS_OK. Otherwise the first that applies of
- * ZS_NO_PROGRAM, ZS_NO_ROOM, ZS_OTHER_STATE and ZS_NO_STEP; `out` is then unchanged and *size is 0.
+ * ZS_OTHER_VERSION, ZS_NO_PROGRAM, ZS_NO_ROOM, ZS_OTHER_STATE and ZS_NO_STEP; `out` is then unchanged and *size is 0.
  *
  * *size is the number of bytes of the text, without its final 0. The text and its 0 are written to the front of `out`: all of
  * them if out_len is above *size, else its first out_len bytes. The rest of `out` is unchanged. */

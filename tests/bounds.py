@@ -11,8 +11,8 @@ import reference
 from reference import sat
 
 MOST, LAST = 2 ** 64 - 1, 999999999999999
-# The steps that are looked at by default, and of large schedules so many that the steps of all nodes are at most WORK.
-STEPS, WORK, ANY = 20000, 1200000, (1, None)
+# By default so many steps are looked at that those of all nodes are at most WORK.
+WORK, ANY = 1200000, (1, None)
 # A driver's waits: the least and the most percentage, how late an attempt may begin, and the longest wait on request.
 EXACT = (100, 100, 0, 0)
 WAITS = [EXACT, EXACT, (0, 100, 0, 0), (80, 120, 0, 0), (50, 150, 3, 0), (100, 100, 50, 900), (33, 67, 0, 5),
@@ -162,6 +162,7 @@ def never_ends(s):
 # The lowest of the limits that there are; the highest, if all are there; the greater number, if the second has 64 bits.
 def lower(*limits): return min((it for it in limits if it is not None), default=None)
 def all_limited(*limits): return None if None in limits else max(limits)
+def summed(*limits): return None if None in limits or sum(limits) > MOST else sum(limits)
 def within(x, y): return max(x, y) if y <= MOST else None
 
 
@@ -179,17 +180,24 @@ def has_time(s, place):
     return False
 
 
-def time_limit(s):
-    """A limit of the time from the first step up to one that goes on, by the form of a schedule, or None."""
+def time_limit(s, durations=ANY, waits=EXACT, beside=0):
+    """A limit of the time from the first step up to one that goes on, by the form of a schedule, or None. The waits of
+    what is stepped beside it have a limit."""
     match s:
-        case "&&", a, b:
-            return lower(time_limit(a), time_limit(b))
-        case "||", a, b:
-            return all_limited(time_limit(a), time_limit(b))
+        case ["&&" | "||" as operator, a, b]:
+            joined = lower if operator == "&&" else all_limited
+            return joined(*(time_limit(it, durations, waits, all_limited(beside, wait_limit(other)))
+                            for it, other in ((a, b), (b, a))))
+        case "andThenEither", a, b:
+            # The second part begins at the step after the last one at which the first goes on.
+            wait = all_limited(beside, wait_limit(a))
+            gap = None if None in (wait, durations[1]) else driven(waits, wait, wait)[1] + durations[1]
+            return summed(time_limit(a, durations, waits, beside), gap, time_limit(b, durations, waits, beside))
         case "whileOutput", part, pick, comparison, k if has_time(part, PLACES[pick]):
-            return lower(time_limit(part), {"<": max(k - 1, 0), "<=": k, "=": k}.get(comparison))
+            return lower(time_limit(part, durations, waits, beside),
+                         {"<": max(k - 1, 0), "<=": k, "=": k}.get(comparison))
         case ["whileInput" | "whileOutput" | "map" | "collectAll", part, *_]:
-            return time_limit(part)
+            return time_limit(part, durations, waits, beside)
     return None
 
 
@@ -223,7 +231,7 @@ def weight(s):
 def bounds(s, durations=ANY, most=None, waits=EXACT):
     """The bounds that zsched-bounds prints of a schedule, durations, waits of a driver and at most this many steps."""
     state, d, passed, least, longest, total, run = None, None, 0, 1, 0, 0, durations[1]
-    limit, most = time_limit(s), most or max(1, min(STEPS, WORK // weight(s)))
+    limit, most = time_limit(s, durations, waits), most or WORK // weight(s)
     for n in range(1, most + 1):
         (_, wait, may_stop), state = step(s, state, d)
         least += least == n and not may_stop
@@ -241,16 +249,35 @@ def bounds(s, durations=ANY, most=None, waits=EXACT):
             passed += d[0]
         if wait is None or passed > LAST:
             break
-    if wait is not None and passed <= LAST:
-        # More steps may follow.
-        last = wait_limit(s)
-        total = None if None in (limit, last) else within(0, limit + driven(waits, last, last)[1])
+    every, is_cut, seen = longest, wait is not None and passed <= LAST, n
+    n = n if wait is None else None
+    if is_cut:
+        # More steps may follow. Before one that goes on is time for some attempts, and one more may come.
+        n, last = None if limit is None else summed(limit // max(durations[0], 1), 2), wait_limit(s)
+        every = None if last is None else driven(waits, last, last)[1]
+        total = None if None in (limit, every) else within(0, limit + every)
         run = None if None in (durations[1], total) else within(0, total + 2 * durations[1])
     return {"attempt": dict(zip(("least", "most"), durations)),
             "wait": dict(zip(("least_percent", "most_percent", "late", "asked"),
                              [None if it == MOST else it for it in waits])),
-            "attempts": {"least": least, "most": n if wait is None else None}, "never_gives_up": never_ends(s),
-            "longest_wait": longest, "total_wait": total, "longest_run": run, "steps_seen": n}
+            "attempts": {"least": least, "most": n}, "never_gives_up": never_ends(s),
+            "longest_wait": longest, "every": every, "total_wait": total, "longest_run": run, "within": None,
+            "steps_seen": seen, "is_cut": is_cut}
+
+
+def attempts_within(s, durations, waits, time, most):
+    """How many attempts begin within a time of the begin of the first one, at most, from at most this many steps."""
+    state, d, passed, least = None, None, 0, max(durations[0], 1)
+    for n in range(1, most + 1):
+        (_, wait, _), state = step(s, state, d)
+        wait = wait and driven(waits, *wait)
+        if wait is None:
+            return n
+        d = wait[0] + least, wait[1] + (durations[1] or LAST)
+        passed += d[0]
+        if passed > time:
+            return n
+    return sat(time // least + 1)
 
 
 def options(durations, waits):

@@ -111,5 +111,6 @@ def library():
         return pathlib.Path(named)
     with open(TOP / "tests" / "floors.txt", encoding="utf-8") as held:
         fcntl.flock(held, fcntl.LOCK_EX)
-        subprocess.run([TOP / "build" / "make-library"], check=True, stdout=subprocess.DEVNULL)
+        for target in ["x86_64", "wasm"]:
+            subprocess.run([TOP / "build" / "make-library", "--target", target], check=True, stdout=subprocess.DEVNULL)
     return TOP / "crates" / "zsched_c" / "out"

@@ -50,9 +50,12 @@ class History:
     def request(self, command):
         return " ".join([command, f".{self.text.hex()}", *[str(number) for pair in self.pairs for number in pair]])
 
-    def differs(self, line, command):
-        """What is wrong with a client's line for the request, or None."""
+    def differs(self, line, command, longest=None):
+        """What is wrong with a client's line for the request, or None. Moments above the longest one are Infinity."""
         steps, fault = ([], KEEPS_LIST) if self.has_list else (self.steps, self.fault)
+        if longest:
+            parts = [it.split(",", 2) for it in steps]
+            steps = [",".join([done, "Infinity" if int(next_) > longest else next_, out]) for done, next_, out in parts]
         words = line.split(" ", len(steps))
         if command == "visits":
             words = [step for it, step in zip(words, steps) if 0 < int(it) <= self.weight] + words[len(steps):]
@@ -110,9 +113,9 @@ def histories():
     return found
 
 
-def judge(client, asked, command, *more, **named):
+def judge(client, asked, command, *more, longest=None, **named):
     """Compares the lines that a client prints of histories with those that they must have."""
     lines = client.says([it.request(command) for it in asked], *more, **named)
     assert len(lines) == len(asked)
-    wrong = [text for line, it in zip(lines, asked) if (text := it.differs(line, command))]
+    wrong = [text for line, it in zip(lines, asked) if (text := it.differs(line, command, longest))]
     assert not wrong, f"{len(wrong)} lines are wrong, such as {wrong[0]}"

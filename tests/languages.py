@@ -24,6 +24,8 @@ WATCHED = ["-g", "-fsanitize=address,undefined", "-fno-sanitize-recover=all"]
 CPP = ("c++", "-x", "c++", "-std=c++17")
 WRAPPED = ["-Wl,--wrap=malloc,--wrap=realloc,--wrap=free", "-lpthread"]
 JNA = pathlib.Path("/usr/share/java/jna.jar")
+# Run a program of arm64, with the C library of Debian's cross compiler, and compile one.
+ON_ARM, ARM_COMPILER = ["qemu-aarch64", "-L", "/usr/aarch64-linux-gnu"], "aarch64-linux-gnu-gcc"
 UNWANTED = shutil.ignore_patterns("__pycache__", "target", "Cargo.lock", "*.node", "example*")
 CLEAN = {name: os.environ[name]
          for name in ["PATH", "HOME", "CARGO_HOME", "RUSTUP_HOME", "NODE_INCLUDE"] if name in os.environ}
@@ -102,7 +104,7 @@ def go_variables(place):
             "LD_LIBRARY_PATH": str(place.library), "GOPROXY": "off", "GOFLAGS": "-mod=readonly -buildvcs=false"}
 
 
-def go(room, place):
+def go(room, place, *words, **variables):
     """The client in Go, over the packaged module as a proxy of modules has it, with the library in it."""
     need("go")
     module, name = "github.com/zsched/zsched/bindings/go", f"v{(TOP / 'VERSION').read_text().strip()}"
@@ -115,8 +117,8 @@ def go(room, place):
     (room / "client").mkdir()
     shutil.copy(CLIENTS / "client.go", room / "client")
     (room / "client" / "go.mod").write_text(f"module client\n\ngo 1.19\n\nrequire {module} {name}\n")
-    ran(["go", "build", "-o", room / "answers", "."], room / "client", GOPROXY=f"file://{room / 'proxy'}",
-        GONOSUMDB="*", GOMODCACHE=room / "cache", GOFLAGS="-mod=mod -modcacherw")
+    ran(["go", "build", *words, "-o", room / "answers", "."], room / "client", GOPROXY=f"file://{room / 'proxy'}",
+        GONOSUMDB="*", GOMODCACHE=room / "cache", GOFLAGS="-mod=mod -modcacherw", **variables)
     return Client([room / "answers"], {})
 
 
@@ -127,6 +129,15 @@ def node(room, place):
     ran(["./build"], package, ZSCHED_LIBRARY_DIR=place.library, CPATH=place.include)
     shutil.copy(CLIENTS / "client.js", room)
     # Little memory for what it drops.
+    return Client(["node", "--max-semi-space-size=1", room / "client.js"], {})
+
+
+def node_on_webassembly(room, place):
+    """The same over the library in WebAssembly, with no addon."""
+    need("node")
+    shutil.copytree(BINDINGS / "node", room / "node_modules/zsched", ignore=UNWANTED)
+    shutil.copy(place.library / "wasm/zsched.wasm", room / "node_modules/zsched")
+    shutil.copy(CLIENTS / "client.js", room)
     return Client(["node", "--max-semi-space-size=1", room / "client.js"], {})
 
 
@@ -156,9 +167,25 @@ def rust(room, place, crate=BINDINGS / "rust"):
     return Client([room / "target" / "release" / "client"], {})
 
 
+def on_arm(client):
+    """The same client on arm64, by an emulator."""
+    need(ON_ARM[0])
+    return Client([*ON_ARM, *client.words], client.variables)
+
+
+def c_on_arm(room, place):
+    return on_arm(c(room, built_library(place.library / "aarch64"), compiler=(ARM_COMPILER, "-std=gnu11")))
+
+
+def go_on_arm(room, place):
+    need(ARM_COMPILER)
+    return on_arm(go(room, place, GOARCH="arm64", CGO_ENABLED="1", CC=ARM_COMPILER))
+
+
 LANGUAGES = {"C": c, "C watched": lambda room, place: c(room, place, *WATCHED),
              "C++": lambda room, place: c(room, place, compiler=CPP), "Python": python, "Go": go, "Node": node,
-             "Java": java, "Rust": rust}
+             "Java": java, "Rust": rust, "C on arm64": c_on_arm, "Go on arm64": go_on_arm,
+             "Node on WebAssembly": node_on_webassembly}
 
 
 @pytest.fixture(scope="session")

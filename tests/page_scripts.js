@@ -15,7 +15,7 @@ const FIELDS = { a: "recurs(3)", b: "", mode: "retry", world: "script", script: 
 const text = fs.readFileSync(process.argv[2], "utf8");
 const named = vm.runInThisContext;
 const textOf = id => new RegExp(` id="${id}">\n(.*?)</script>`, "s").exec(text)[1];
-for (const name of ["evaluator", "drawing", "bounding"]) named(textOf(name), { filename: name });
+for (const name of ["evaluator", "drawing", "proved", "proving", "bounding"]) named(textOf(name), { filename: name });
 globalThis.document = { getElementById: id => ({ textContent: textOf(id) }) };
 named(textOf("asking"), { filename: "asking" });
 
@@ -27,14 +27,28 @@ globalThis.page = {
   },
   // The plan of the fields, but for these.
   plan(changed, most = MOST_OF_A_CLIENT) {
-    const { text, service } = named("asking").questionOf({ ...FIELDS, ...changed }, most);
-    return { text, service };
+    const { text, services } = named("asking").questionOf({ ...FIELDS, ...changed }, most);
+    return { text, services: services && [...services.values()] };
   },
   // The report of that plan, and its fault.
   report: changed => page.answer(Buffer.from(page.plan(changed).text).toString("base64"))[1],
   fault: changed => page.answer(Buffer.from(page.plan(changed).text).toString("base64"))[2],
-  // What each job of that report ends with.
-  verdicts: changed => named("drawing").rowsOf(page.report(changed)).map(named("drawing").verdict),
+  // The jobs of that report as the page shows them, and what each ends with.
+  rows: changed => named("asking").rowsOf(page.report(changed), named("asking").policiesOf({ ...FIELDS, ...changed })),
+  verdicts: changed => page.rows(changed).map(named("drawing").verdict),
+  // How each job of that report ends, its attempts, its end and its waits; and what holds for every input of its policy.
+  tried: changed => page.rows(changed).map(row => ({ how: row.ending.how, attempts: row.attempts.length,
+    end_ms: row.ending.at - row.attempts[0].begin, ...named("drawing").waitsOf(row) })),
+  bounded(changed) {
+    const { policies: [policy], driver } = named("asking").questionOf({ ...FIELDS, ...changed }, MOST_OF_A_CLIENT);
+    const { scope, words } = named("bounding");
+    return `${scope(policy.drivenBy(driver), policy.isDrawn)}: ${words(policy.bounds(driver), policy.call)}`;
+  },
+  // Where the attempts of each policy may begin, whatever is drawn.
+  draws(changed) {
+    const { policies } = named("asking").questionOf({ ...FIELDS, ...changed }, MOST_OF_A_CLIENT);
+    return policies.map(it => it.draws);
+  },
   // The picture of a report.
   picture: (report, options) => named("drawing").picture(named("drawing").rowsOf(report), options).svg,
   // The fault of a policy in words, or what it becomes, and its least and greatest draw, and that of a client.

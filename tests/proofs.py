@@ -1,10 +1,10 @@
 #!/usr/bin/env python3
 """Runs `rt ci`: proofs, tests and edits of the crates, and the programs. The toolchain may skip what passed on this
-machine over the same files; --anew repeats everything. `rt ci` passes if an edit doesn't apply or can't be read. This
-fails then, and if one of the files in crates/*/must-fail isn't reported as rejected. It notes the libraries that were
-built, for build/make-library and `rt check`. The last line is 'N passed, M failed'."""
+machine over the same files; --anew repeats everything. `rt ci` passes if an edit doesn't apply or can't be read, or if
+its rejection says nothing of a contract. This fails then, and if one of the files in crates/*/must-fail isn't reported
+as rejected. It notes the libraries that were built, for build/make-library and `rt check`. The last line is 'N passed,
+M failed'."""
 import argparse
-import os
 import re
 import signal
 import subprocess
@@ -17,8 +17,9 @@ from support import TOP
 import toolchain
 
 LAST = re.compile(r"(\d+) passed, (\d+) failed")
+ANEW = "every proof and must-fail edit was done in this run"
 REJECTED = re.compile(r"rt: must-fail (\S+): refused, as it must be")
-BAD = re.compile(r"BAD EDIT|NOT TRIED|NOT REFUSED")
+BAD = re.compile(r"BAD EDIT|NOT TRIED|NOT REFUSED|\(only (because a proof file names|by a limit of the prover)")
 # A step of a crate, which is shown with its time.
 STEP = re.compile(r"rt: (?:\w+(?:: its tests are)? proved$|\w+ is kept|\w+: trying its must-fail edits)")
 
@@ -29,7 +30,7 @@ def edits():
     return {f"{path.relative_to(TOP / 'crates').parts[0]}/{path.name}" for path in found}
 
 
-def judged(lines, status, wanted):
+def judged(lines, status, wanted, is_anew=False):
     """How many proofs and edits passed and failed, by the output of `rt ci`, and why else than by what it counts."""
     last = LAST.match(lines[-1]) if lines else None
     passed, failed = (int(last[1]), int(last[2])) if last else (0, 1)
@@ -40,13 +41,9 @@ def judged(lines, status, wanted):
         why += [f"rt ci reports no result of the edit {name}" for name in lost]
     if not last or status and not failed:
         why.append(f"rt ci ended with status {status}, and its last line is {lines[-1] if lines else ''!r}")
+    if is_anew and not failed and not any(ANEW in line for line in lines):
+        why.append(f"rt ci doesn't say that {ANEW}")
     return passed, max(failed, len(why)), why
-
-
-def variables():
-    """The variables for `rt ci`, which waits for free memory: how many run at once, if each has four gigabytes."""
-    processors, memory = len(os.sched_getaffinity(0)), os.sysconf("SC_PAGE_SIZE") * os.sysconf("SC_PHYS_PAGES")
-    return ({"RT_JOBS": str(processors)} if memory >= 4_000_000_000 * processors else {}) | os.environ
 
 
 def main():
@@ -54,8 +51,8 @@ def main():
     words.add_argument("--anew", action="store_true", help="repeat what an earlier run passed")
     is_anew = words.parse_args().anew
     wanted, lines, begun = edits(), [], time.monotonic()
-    running = subprocess.Popen(["rt", "ci", *["--anew"] * is_anew], cwd=TOP, env=variables(), text=True,
-                               errors="replace", stdout=subprocess.PIPE, stderr=subprocess.STDOUT)
+    running = subprocess.Popen(["rt", "ci", *["--anew"] * is_anew], cwd=TOP, text=True, errors="replace",
+                               stdout=subprocess.PIPE, stderr=subprocess.STDOUT)
     try:
         for line in running.stdout:
             lines.append(line.rstrip("\n"))
@@ -65,7 +62,7 @@ def main():
     finally:
         running.send_signal(signal.SIGTERM)
         running.wait()
-    passed, failed, why = judged(lines, running.returncode, wanted)
+    passed, failed, why = judged(lines, running.returncode, wanted, is_anew)
     if not failed:
         toolchain.stamp()
     print(*[f"proofs: {it}" for it in why], f"{passed} passed, {failed} failed", sep="\n")

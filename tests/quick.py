@@ -1,10 +1,11 @@
 #!/usr/bin/env python3
 """The quick gate, for the minutes between edits.
 
-It proves each crate whose files changed since it was last proved here, by `rt check`, runs the tests of the crates
-above by `rt try --test`, and the plans on the program without proofs: no crate above a changed contract, no edit, no
-cut. The last line is 'N passed, M failed'. ./run --proved calls `quick.py --proved PROGRAM`, which counts all crates of
-the program as proved."""
+First, in seconds, it runs the tests that need no program: rules, promises and documents. Then it proves each crate
+whose files changed since it was last proved here, by `rt check`, runs the tests of the crates above by `rt try --test`,
+and the plans on the program without proofs: no crate above a changed contract, no edit, no cut. The last line is
+'N passed, M failed'. ./run --proved calls `quick.py --proved PROGRAM`, which counts all crates of the program as
+proved."""
 import concurrent.futures
 import hashlib
 import json
@@ -14,12 +15,13 @@ import sys
 
 sys.dont_write_bytecode = True
 
-from support import TOP, built
+import no_program
+from support import TOP
 from toolchain import crates_of, sources_sum
 
 CRATES = crates_of(TOP)
 # The checksum of each crate's files when it was last proved here.
-NOTE = built("zsched").with_name("checked.json")
+NOTE = TOP / "crates" / "zsched" / "out" / "checked.json"
 
 
 def total(crate):
@@ -64,13 +66,14 @@ def runs_plans():
 
 
 def main():
-    """Proofs, then tests, and plans beside them."""
+    """The tests that need no program, then proofs and tests, and plans beside them."""
+    is_first = succeeds("rules, promises and documents", [sys.executable, *no_program.WORDS], TOP, PYTHONPATH="tests")
     changed = [crate for name, crate in CRATES.items() if noted().get(name) != total(crate)]
     above = [crate for crate in CRATES.values() if {*changed} & {crate, *crate.below}
              and any("#[test]" in path.read_text(encoding="utf-8") for path in crate.folder.glob("src/**/*.rt"))]
     with concurrent.futures.ThreadPoolExecutor(1) as beside:
         plans = beside.submit(runs_plans)
-        results = [proves(crate) for crate in changed]
+        results = [is_first, *[proves(crate) for crate in changed]]
         results += [succeeds(f"rt try --test, {crate.name}", ["rt", "try", "--test"], crate.folder) for crate in above]
         results.append(plans.result())
     print(f"{sum(results)} passed, {results.count(False)} failed")

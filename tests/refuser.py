@@ -21,18 +21,22 @@ class Counted(NamedTuple):
 
 
 class Refuser:
-    def __init__(self, folder):
+    """The library, compiled for the machine of a compiler, whose programs an emulator runs."""
+
+    def __init__(self, folder, compiler="cc", emulator=()):
         source = pathlib.Path(__file__).with_name("refuse.c")
         self.library, self.count = folder / "refuse.so", folder / "count"
-        subprocess.run(["cc", "-shared", "-fPIC", "-O2", "-Wall", "-Werror", "-o", self.library, source, "-ldl",
+        self.before = [*emulator, "-E", f"LD_PRELOAD={self.library}"] if emulator else []
+        subprocess.run([compiler, "-shared", "-fPIC", "-O2", "-Wall", "-Werror", "-o", self.library, source, "-ldl",
                         "-lpthread"], check=True)
 
     def run(self, program, text, **failures):
         """A run in which some things fail: at=3 means REFUSE_AT=3 of refuse.c."""
         self.count.write_text("0 0")
         more = {f"REFUSE_{name.upper()}": str(number) for name, number in failures.items()}
-        ended = run(program, text,
-                    {**os.environ, "LD_PRELOAD": str(self.library), "REFUSE_COUNT": str(self.count), **more})
+        loaded = {} if self.before else {"LD_PRELOAD": str(self.library)}
+        ended = run([*self.before, str(program)], text,
+                    {**os.environ, **loaded, "REFUSE_COUNT": str(self.count), **more})
         return Counted(ended, *map(int, self.count.read_text().split()))
 
     def each(self, program, text, kind="at"):

@@ -5,6 +5,7 @@ import itertools
 import json
 import os
 import pathlib
+import re
 import subprocess
 import sys
 from unittest import mock
@@ -23,7 +24,7 @@ end succeeded 1 at 10 polls 3
 ONE_REPORT = (BLOCK.format("a") + "polls 3\n").encode()
 
 
-def built(crate): return TOP / "crates" / crate / "out" / crate
+def built(crate): return TOP / "out" / "proved" / crate
 
 
 def job(name="a", schedule="recurs(3)", mode="retry", script=SCRIPT, more=""):
@@ -43,8 +44,10 @@ def report_beside(path): return path.with_name(path.name + ".stdout").read_bytes
 
 
 def rows(name):
-    """The rows of a table in this folder, each a line of JSON."""
-    return [json.loads(line) for line in (TOP / "tests" / name).read_text(encoding="utf-8").splitlines()]
+    """The rows of a table in this folder, each a line of JSON. The first line names the test and the columns."""
+    head, *found = [json.loads(line) for line in (TOP / "tests" / name).read_text(encoding="utf-8").splitlines()]
+    assert re.match(r"test_\w+\.py: \w", head), f"{name} has no head"
+    return found
 
 
 def recut(text, workers, grain):

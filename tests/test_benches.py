@@ -78,8 +78,10 @@ def test_a_run_prints_a_row(tmp_path):
 def test_a_row_says_which_aims_it_misses():
     pairs = {"instructions": (126, 100), "processor": (300, 100), "wall": (125, 100), "memory": (140, 100)}
     assert bench.judged("large_plan", pairs) == ["1.25, memory 1.4", "missed: instructions"]
-    assert bench.judged("resets", {**pairs, "instructions": None}) == ["1.25", "missed: memory"]
-    assert bench.judged("jobs_4_1", pairs) == ["1.8", "reached"]
+    assert bench.judged("resets", {**pairs, "instructions": None}) == ["1.35, memory 1.25", "missed: memory"]
+    assert bench.judged("jobs_4_100", {**pairs, "instructions": (146, 100)}) == [
+        "1.45, memory 1.25", "missed: instructions, memory"]
+    assert bench.judged("jobs_4_1", {**pairs, "memory": (125, 100)}) == ["1.9, memory 1.25", "reached"]
 
 
 def test_growth_is_drawn(tmp_path):

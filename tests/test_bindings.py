@@ -1,17 +1,26 @@
 """The bindings: one client in each language (tests/clients/) steps the same schedules, plans the same attempts, fails
 with the same faults and retries by the same policies, in the same order. What only one binding has is tested by a
-program in its language (tests/clients/only_in_*, inside_go_test.go, OnlyInJava.java; tests/test_python.py). The example
+program in its language (tests/clients/only_in_*, inside_go_test.go, OnlyInJava.java; test_python*.py). The example
 of each binding really waits."""
+import email.utils
+import fcntl
+import http.server
 import itertools
+import json
+import math
 import pathlib
+import random
 import re
 import shutil
 import subprocess
+import sys
+import threading
 import time
 
 import pytest
 
 import reference
+from generator import filled, made_term
 from histories import FALLS, KEEPS_LIST, History, histories, judge
 from languages import (BINDINGS, CLEAN, CLIENTS, CPP, JNA, LANGUAGES, STRICT, WATCHED, are_kept, built_library, client,
                        go_variables, need, node, ran, request)
@@ -19,7 +28,7 @@ from support import TOP, rows
 from test_library import BOUNDS
 
 # Languages whose texts are bytes, UTF-8 or not.
-BYTES = ["C", "C watched", "C++", "Go", "Node"]
+BYTES = ["C", "C watched", "C++", "Go", "Node", "C on arm64", "Go on arm64", "Node on WebAssembly"]
 # Debian's packages put the sources of crates here.
 CRATES = pathlib.Path("/usr/share/cargo/registry")
 FAULTS = {text.encode(): fault for text, fault in rows("faulty_texts.jsonl")}
@@ -47,6 +56,21 @@ ANY_LATENESS = 1, 2 ** 64 - 1, 0, 0, 2 ** 64 - 1
 # 1 for a shared budget, and the longest least wait, an hour if it isn't there; how many attempts there are at least and
 # most, and the least and most milliseconds of each wait. Jitter shortens waits, so elapsed passes more attempts.
 OPTIONS = rows("retry_options.jsonl")
+# The text of no schedule, and its message. What is set in a retry that fails at once, and what each language prints.
+TEXTS_SAID, EDGES = rows("texts_said.jsonl"), rows("edges.jsonl")
+# The languages that have the edges and the messages of wrong texts.
+SHARED = ["C", "C++", "Go", "Java", "Node", "Python", "Rust"]
+# The longest moment that a language's numbers have; longer ones are Infinity.
+LONGEST = {"Node": 2 ** 53 - 1, "Node on WebAssembly": 2 ** 53 - 1}
+# Policies with an end, of numbers N; and how many attempts a call of `guarded` makes at most.
+GUARDED = ["((exponential(N) || spaced(N)) && recurs(6))", "(exponential(N, 3) && recurs(5))",
+           "(fibonacci(N) && recurs(9))", "(spaced(N) && elapsed).whileOutput(_2 < 500)",
+           "(linear(N) && elapsed).whileOutput(_2 < 5000)", "(identity && elapsed).whileOutput(_2 < 50)",
+           "(fixed(N) && recurs(7))", "(exponential(N).whileInput(>= 503) && recurs(8))",
+           "((spaced(N) && recurs(3)) andThenEither (linear(N) && recurs(3)))"]
+MOST_GUARDED = 200
+# How many tests the bindings for Go and Node have alone.
+GO_TESTS, NODE_TESTS = 31, {"only_in_node.test.js": 25, "journal_only_in_node.test.js": 6}
 MANY, TIMES, BYTES_A_STEP = 1_000_000, 1.5, 4
 
 
@@ -69,7 +93,7 @@ def test_all_schedules_are_stepped_as_the_reference_says(client, name):
     chosen = [it for it in histories() if name in BYTES or it.text.decode(errors="ignore").encode() == it.text]
     assert sum(it.is_flat for it in chosen) >= 2000
     for command in ways(name):
-        judge(client(name), chosen, command)
+        judge(client(name), chosen, command, longest=LONGEST.get(name))
 
 
 @pytest.mark.parametrize("name", named())
@@ -99,7 +123,7 @@ def test_outputs_of_any_length_are_whole(client, name):
     long = History(f"({wide} && linear(9))".encode(), [(3, 0), (5, 0), (8, 0)])
     assert len(long.steps[0]) > 256
     for command in ways(name):
-        judge(client(name), [long], command)
+        judge(client(name), [long], command, longest=LONGEST.get(name))
 
 
 @pytest.mark.parametrize("name", named())
@@ -136,6 +160,59 @@ def test_a_retry_calls_its_hooks_in_order(client, name):
     wanted = {(text, what): lines[name.split()[0].rstrip("+")] for text, what, lines in ORDERS}
     wanted = {asked: line for asked, line in wanted.items() if line}
     assert client(name).says(request("order", *asked) for asked in wanted) == list(wanted.values())
+
+
+@pytest.mark.parametrize("name", named(*SHARED))
+def test_a_wrong_text_is_said_with_its_mark_and_what_to_write(client, name):
+    found = client(name).says(request("said", text) for text, _ in TEXTS_SAID)
+    assert [bytes.fromhex(it[1:]).decode() for it in found] == [message for _, message in TEXTS_SAID]
+
+
+@pytest.mark.parametrize("name", named(*SHARED))
+def test_edges_are_the_same_in_each_language(client, name):
+    wanted = {(text, what): lines[name.split()[0].rstrip("+")] for text, what, lines in EDGES}
+    wanted = {asked: line for asked, line in wanted.items() if line}
+    assert client(name).says(request("edge", text, *what.split()) for text, what in wanted) == list(wanted.values())
+
+
+def guarded_call(chance):
+    """The request of a call by a random policy with random options, times and draws. A clock has its waits."""
+    is_chosen, text = chance.choice([True, False]), "collectAll"
+    while re.search(r"\d{5}|collectAll|size", text):
+        form, nodes = chance.choice(GUARDED), chance.choice(range(1, 9))
+        text = filled(chance, form) if is_chosen else made_term(chance, nodes)[0]
+    endless = not is_chosen and re.search("exponential|fibonacci", text)
+    deadlines, least = [1, 300, 5000] if endless else [0, 0, 0, 1, 300, 5000], chance.choice([0, 1, 5, 40])
+    return ("guarded", text, chance.choice(range(10 ** 6)), chance.choice([0, 0, 10, 50, 100]),
+            chance.choice([0, 0, 50, 3000]), chance.choice(deadlines), chance.choice([0, 0, 20, 1000]), least,
+            least + chance.choice([0, 1, 50, 3000]), chance.choice([0, 0, 0, 1]))
+
+
+def exceeds(call, line):
+    """Which bounds of its guard a call passed, and which it reached."""
+    attempts, wait, total, end, least, most, *limits = (int(it) if int(it) >= 0 else math.inf for it in line.split())
+    *_, shortest, _, has_fallen = call
+    found = {"most": (attempts, most), "least": (least, math.inf if attempts == MOST_GUARDED else attempts)}
+    if not has_fallen:
+        # An attempt counts as 1 ms or more, so the wait after a shorter one may be longer by that.
+        wait, total = (wait, total) if shortest else (wait - 10 ** 6, total - 10 ** 6 * attempts)
+        # All waits together are less than 1 ms above `total`, which follows from moments in whole milliseconds.
+        total -= 10 ** 6
+        # Python's times are whole microseconds, and Node's are no whole numbers.
+        found |= {name: (time - 1000, 10 ** 6 * limit)
+                  for name, time, limit in zip(["longest", "total", "longest_run"], [wait, total, end], limits)}
+    return [name for name, (it, limit) in found.items() if it > limit], [
+        name for name, (it, limit) in found.items() if it == limit]
+
+
+@pytest.mark.parametrize("name", named(*SHARED))
+def test_no_call_is_outside_the_bounds_of_its_guard(client, name):
+    """Jitter, least waits, deadlines, late timers, slow attempts and clocks that fall, by chance."""
+    chance = random.Random(7)
+    calls = [guarded_call(chance) for _ in range(2000)]
+    found = [exceeds(*it) for it in zip(calls, client(name).says(request(*it) for it in calls), strict=True)]
+    assert [(call, passed) for call, (passed, _) in zip(calls, found) if passed] == []
+    assert sum("most" in reached for _, reached in found) > 400
 
 
 def forms(names):
@@ -278,35 +355,311 @@ def test_the_loop_in_c_says_which_macro_it_needs_where_it_is_included_late(libra
     ran([*words, "-std=gnu99"], tmp_path)
 
 
-def test_the_readme_in_c_gives_up(library, tmp_path):
-    code = re.search(r"```c\n(.*?)```", (BINDINGS / "c" / "README.md").read_text(), re.DOTALL)[1]
-    (tmp_path / "readme.c").write_text(code)
-    for compiler in [["cc", "-std=c99"], ["c++", "-x", "c++", "-std=c++17"]]:
-        ran([*compiler, *STRICT, "-I", TOP / "include", "-I", BINDINGS / "c", "-c", "-o", "readme.o", "readme.c"],
-            tmp_path)
-        ran(["cc", "-o", "readme", "readme.o", library / "libzsched.a"], tmp_path)
-        assert ran(["./readme"], tmp_path) == "504 after 4 attempts\n"
+def recipe(language, library, room):
+    """The words and variables of the recipe of a journal in a language."""
+    if language == "c":
+        ran(["cc", "-std=gnu17", *STRICT, *built_library(library).flags[:2], "-o", "journal", BINDINGS / "c/journal.c",
+             library / "libzsched.a"], room)
+        return [room / "journal"], {}
+    if language == "rust":
+        folder, variables = crate(library, room)
+        ran(["cargo", "build", "--quiet", "--offline", "--example", "journal"], folder, **variables)
+        return [folder / "target/debug/examples/journal"], {}
+    need("javac", JNA)
+    ran(["javac", "-Xlint:all", "-Werror", "-cp", JNA, "-d", "classes", *BINDINGS.glob("java/zsched/*.java"),
+         BINDINGS / "java/Journal.java"], room)
+    return ["java", "-cp", f"{JNA}:{room / 'classes'}", f"-Djna.library.path={library}", "Journal"], {}
+
+
+@pytest.mark.parametrize("language", ["c", "rust", pytest.param("java", marks=pytest.mark.full)])
+def test_the_recipe_of_a_journal_loses_no_attempt(library, tmp_path, language):
+    words, variables = recipe(language, library, tmp_path)
+    file = tmp_path / "jobs" / "job"
+    file.parent.mkdir()
+
+    def says(what, status=0):
+        given = [*map(str, words), str(file), what]
+        ended = subprocess.run(given, env=CLEAN | variables, capture_output=True, text=True, check=False, timeout=60)
+        assert ended.returncode == status, ended.stderr
+        return ended.stdout.splitlines()
+
+    for number in [1, 2, 3]:
+        assert says("killed", 9) == ["attempt"]
+        assert f"\nattempts {number}\n" in file.read_text()
+        assert file.read_text().endswith(f"\nerror killed in attempt {number}\nend\n")
+    faulty = f"zsched: journal {file}: "
+    assert says("done") == says("done") == [f"{faulty}gave up after 3 attempts: killed in attempt 3"]
+    file.unlink()
+    assert says("busy") == [*["attempt"] * 3, "busy"]
+    assert says("busy") == [f"{faulty}gave up after 3 attempts: busy"]
+    kept = file.read_text()
+    assert re.fullmatch(r"zsched journal 1\nschedule \(spaced\(10\) && recurs\(2\)\)\nstate \d+( \d+)+\nattempts 3\n"
+                        r"ended \d+\nbegin none\nat \d+\nerror busy\nend\n", kept)
+    wrong = {"": "empty", kept[:9]: "cut", kept[:-2]: "cut", "x": "no journal", "zsched journal 1\nend\n": "no journal",
+             kept.replace("attempts 3", "attempts 03"): "no journal", kept.replace("ended", "begun"): "no journal",
+             kept.replace("recurs(2)", "recurs(3)"): "another policy",
+             kept.replace("journal 1", "journal 2"): "another version",
+             re.sub(r"state \d+", "state 7", kept): "another version",
+             re.sub(r"state .*", "state 7", kept): "another version"}
+    for text, why in wrong.items():
+        file.write_text(text)
+        assert says("done") == [faulty + why] and file.read_text() == text
+    file.unlink()
+    assert says("done") == ["attempt", "done"] and not file.exists()
+    if language != "java":
+        assert not any(file.parent.iterdir())
+        with open(f"{file}.lock", "w", encoding="utf-8") as held:
+            fcntl.flock(held, fcntl.LOCK_EX)
+            assert says("done") == [f"{faulty}in use"]
+    # If the file can't be written, no attempt begins.
+    pathlib.Path(f"{file}.new").mkdir()
+    said, = says("done")
+    assert said.startswith(faulty) and not file.exists()
+
+
+def snippets(language):
+    """The blocks of code on the page of a language, as they are printed."""
+    page = BINDINGS / language / "README.md"
+    found = re.findall(rf"^```{language}\n(.*?)^```", page.read_text(), re.DOTALL | re.MULTILINE)
+    assert len(found) == 2
+    return found
+
+
+def test_the_page_in_c_is_followed_over_an_installed_library(library, tmp_path):
+    ran([TOP / "build/install-library", "--library", library, "--destdir", tmp_path, "--prefix", "/usr"], tmp_path)
+    include, archive = tmp_path / "usr/include", tmp_path / "usr/lib/libzsched.a"
+    for code, wanted in zip(snippets("c"), ["504 after 4 attempts: gave up\n", ""], strict=True):
+        (tmp_path / "readme.c").write_text(code)
+        for compiler in [["cc", "-std=c99"], ["c++", "-x", "c++", "-std=c++17"]]:
+            ran([*compiler, *STRICT, "-I", include, "-c", "-o", "readme.o", "readme.c"], tmp_path)
+            ran(["cc", "-o", "readme", "readme.o", archive], tmp_path)
+            begun = time.monotonic()
+            assert ran(["./readme"], tmp_path) == wanted
+        assert wanted or time.monotonic() - begun < 1
+
+
+@pytest.mark.parametrize("language", ["c", "java", "rust"])
+def test_the_default_policy_has_the_bounds_of_its_page(client, language):
+    line, = client("C").says([request("bounds", "(exponential(100) && recurs(5))", 1000, 1, 5000, 100, 0, 0)])
+    _, _, _, _, most, longest, _, total, *_ = map(int, line.split())
+    wanted = f"at most {most} attempts, with waits of at most {longest / 1000:.1f} s, {total / 1000:.1f} s together"
+    assert wanted in (BINDINGS / language / "README.md").read_text()
+
+
+def module(library, folder):
+    """A copy of the binding for Go with its tests, which lie in the folder of what they test, and its variables."""
+    need("go")
+    shutil.copytree(BINDINGS / "go", folder)
+    for tests in CLIENTS.glob("*_go_test.go"):
+        shutil.copy(tests, folder)
+    return go_variables(built_library(library))
 
 
 def test_the_example_in_go_waits_for_its_server_and_its_tests_pass(library, tmp_path):
-    need("go")
-    folder, variables = tmp_path / "go", go_variables(built_library(library))
-    shutil.copytree(BINDINGS / "go", folder)
-    # Go's tests lie in the folder of what they test.
-    for tests in CLIENTS.glob("*_go_test.go"):
-        shutil.copy(tests, folder)
+    folder = tmp_path / "go"
+    variables = module(library, folder)
     ran(["go", "vet", "./..."], folder, **variables)
-    assert ran(["go", "test", "-v", "."], folder, **variables).count("--- PASS: ") == 16
+    assert ran(["go", "test", "-v", "."], folder, **variables).count("\n--- PASS: ") == GO_TESTS
     ran(["go", "build", "-o", tmp_path / "example", "./example"], folder, **variables)
     assert ran(["./example"], tmp_path, LD_LIBRARY_PATH=library) == READY
 
 
+# A job that fails once, and what Go's package of files then prints of each call for the disk.
+JOB_IN_GO = """
+package main
+
+import (
+    "context"
+    "errors"
+
+    zsched "github.com/zsched/zsched/bindings/go"
+)
+
+func main() {
+    isBusy, retry := true, zsched.Retry{
+        Schedule: zsched.MustCompile("(spaced(1) && recurs(2))"), Journal: zsched.NewJournal("job")}
+    err := retry.Do(context.Background(), func(context.Context) error {
+        println("attempt")
+        if isBusy {
+            isBusy = false
+            return errors.New("busy")
+        }
+        return nil
+    })
+    if err != nil {
+        panic(err)
+    }
+}
+"""
+PRINTED = {"file_posix.go": ("func (f *File) Sync() error {",
+                             'info, _ := f.Stat(); println(f.name, info.Size() > 0, "is synced")'),
+           "file.go": ("func Rename(oldpath, newpath string) error {", 'println(oldpath, "is renamed")'),
+           "file_unix.go": ("func Remove(name string) error {", 'println(name, "is removed")')}
+
+
+def test_a_journal_in_go_is_on_the_disk_before_an_attempt(library, tmp_path):
+    """A job's calls are seen by a changed copy of Go's package, which replaces it in the build."""
+    variables, place = module(library, tmp_path / "go"), tmp_path / "go" / "job" / "main.go"
+    place.parent.mkdir()
+    place.write_text(JOB_IN_GO)
+    files = pathlib.Path(ran(["go", "env", "GOROOT"], tmp_path).strip(), "src/os")
+    for name, (begin, line) in PRINTED.items():
+        text = (files / name).read_text()
+        assert text.count(begin) == 1
+        (tmp_path / name).write_text(text.replace(begin, f"{begin} {line}"))
+    (tmp_path / "overlay").write_text(json.dumps(
+        {"Replace": {str(files / name): str(tmp_path / name) for name in PRINTED}}))
+    ran(["go", "build", "-overlay", tmp_path / "overlay", "-o", tmp_path / "job-in-go", "./job"], tmp_path / "go",
+        **variables)
+    (tmp_path / "room").mkdir()
+    ended = subprocess.run([tmp_path / "job-in-go"], cwd=tmp_path / "room", capture_output=True, text=True, check=True,
+                           env=CLEAN | variables)
+    written = ["job.new true is synced", "job.new is renamed", ". true is synced"]
+    assert ended.stderr.splitlines() == [*written, "attempt", *written, *written, "attempt", "job is removed",
+                                         ". true is synced", "job.lock is removed"]
+
+
+class Busy(http.server.BaseHTTPRequestHandler):
+    """A server that is busy twice, once with a time to wait in each form."""
+    asked = 0
+
+    def do_GET(self):
+        Busy.asked += 1
+        self.send_response(200 if Busy.asked % 3 == 0 else 503)
+        after = ["ready", "1", email.utils.formatdate(time.time() - 9, usegmt=True)][Busy.asked % 3]
+        self.send_header("Retry-After", after)
+        self.end_headers()
+        self.wfile.write(b"ready")
+
+    def log_message(self, *_):
+        pass
+
+
+@pytest.fixture
+def address():
+    with http.server.ThreadingHTTPServer(("127.0.0.1", 0), Busy) as server:
+        threading.Thread(target=server.serve_forever).start()
+        yield f"http://127.0.0.1:{server.server_address[1]}/"
+        server.shutdown()
+
+
+def printed(name, language):
+    """The programs that a binding's page shows, with nothing beside them."""
+    return re.findall(rf"^```{language}\n(.*?)^```", (BINDINGS / name / "README.md").read_text(), re.M | re.S)
+
+
+def test_the_page_in_go_fetches_as_printed_and_its_test_passes(library, tmp_path, address):
+    variables, folder = module(library, tmp_path / "module"), tmp_path / "page"
+    folder.mkdir()
+    for name, text in zip(["main.go", "main_test.go"], printed("go", "go")):
+        (folder / name).write_text(text)
+    name = "github.com/zsched/zsched/bindings/go"
+    (folder / "go.mod").write_text(f"module page\n\ngo 1.19\n\nrequire {name} v0.0.0\n\nreplace {name} => ../module\n")
+    assert ran(["gofmt", "-l", "."], folder) == ""
+    ran(["go", "test", "."], folder, **variables)
+    begun = time.monotonic()
+    assert ran(["go", "run", ".", address], folder, **variables) == "ready\n" and time.monotonic() - begun > 1
+
+
+# The metrics of a page that is fetched after eight attempts failed.
+METRICS_IN_GO = """
+package main
+
+import (
+    "testing"
+
+    "github.com/prometheus/client_golang/prometheus/testutil"
+)
+
+func TestACallIsCounted(t *testing.T) {
+    TestABusyServerIsAskedAgain(t)
+    retried := testutil.ToFloat64(attempts.WithLabelValues("fetch", "retried"))
+    succeeded := testutil.ToFloat64(attempts.WithLabelValues("fetch", "succeeded"))
+    if calls := testutil.CollectAndCount(seconds); retried != 8 || succeeded != 1 || calls != 1 {
+        t.Error(retried, succeeded, calls)
+    }
+}
+"""
+
+
+def test_the_recipe_of_the_page_in_go_feeds_prometheus(library, tmp_path):
+    binding, page = (tmp_path / "src" / name for name in ["github.com/zsched/zsched/bindings/go", "page"])
+    variables = module(library, binding)
+    page.mkdir()
+    for name, text in zip(["main.go", "main_test.go", "metrics.go"], printed("go", "go"), strict=True):
+        (page / name).write_text(text)
+    assert ran(["gofmt", "-l", "."], page) == ""
+    (page / "metrics_test.go").write_text(METRICS_IN_GO)
+    packages = {"GOPATH": f"{tmp_path}:/usr/share/gocode", "GO111MODULE": "off"}
+    ran(["go", "test", "-run", "TestACallIsCounted", "."], page, **variables, **packages)
+
+
+def test_the_page_in_node_fetches_as_printed_and_its_test_passes(library, tmp_path, address):
+    node(tmp_path, built_library(library))
+    for name, text in zip(["page.js", "page.test.js"], printed("node", "js"), strict=True):
+        (tmp_path / name).write_text(text)
+    assert "# pass 1\n" in ran(["node", "--test", "page.test.js"], tmp_path)
+    begun = time.monotonic()
+    assert ran(["node", "page.js", address], tmp_path) == "ready\n" and time.monotonic() - begun > 1
+
+
 def test_the_example_in_node_waits_for_its_server_and_its_tests_pass(library, tmp_path):
     node(tmp_path, built_library(library))
-    addon = {"ZSCHED_NODE": tmp_path / "node_modules/zsched/zsched.node"}
+    recipe = BINDINGS / "node" / "example_journal.js"
+    addon = {"ZSCHED_NODE": tmp_path / "node_modules/zsched/zsched.node", "ZSCHED_RECIPE": recipe}
     assert ran(["node", BINDINGS / "node" / "example.js"], tmp_path, **addon) == READY
-    shutil.copy(CLIENTS / "only_in_node.test.js", tmp_path)
-    assert "# pass 17\n" in ran(["node", "--test", "only_in_node.test.js"], tmp_path)
+    assert ran(["flock", "-n", "job.lock", "node", recipe, "job.journal"], tmp_path, **addon) == READY
+    assert not (tmp_path / "job.journal").exists()
+    for name, count in NODE_TESTS.items():
+        shutil.copy(CLIENTS / name, tmp_path)
+        assert f"# pass {count}\n" in ran(["node", "--test", name], tmp_path, **addon)
+
+
+JOBS = {"job.py": """
+import os, signal, sys
+from zsched import Journal, retrying
+
+@retrying("(exponential(100) && recurs(3))", journal=Journal("job.journal"))
+def job():
+    if len(sys.argv) > 1:
+        os.kill(os.getpid(), signal.SIGKILL)
+    raise ValueError("busy")
+
+try:
+    job()
+except Exception as error:
+    print(error)
+""", "job.js": """
+require(process.env.ZSCHED_RECIPE).run('job.journal', '(exponential(100) && recurs(3))', () => {
+  if (process.argv.length > 2) {
+    process.kill(process.pid, 'SIGKILL');
+  }
+  throw new Error('busy');
+}).catch((error) => console.log(error.message));
+"""}
+
+
+def test_a_job_goes_on_in_another_language(library, tmp_path):
+    """Of its four attempts one is killed in Python, one in Go and one in Node; the last fails in Python."""
+    variables = module(library, tmp_path / "go")
+    ran(["go", "test", "-c", "-o", tmp_path / "go-job", "."], tmp_path / "go", **variables)
+    node(tmp_path, built_library(library))
+    for name, text in JOBS.items():
+        (tmp_path / name).write_text(text)
+    variables |= {"PYTHONPATH": BINDINGS / "python", "ZSCHED_LIBRARY": library / "libzsched.so",
+                  "ZSCHED_NODE": tmp_path / "node_modules/zsched/zsched.node", "ZSCHED_TEST_JOURNAL": "job.journal",
+                  "ZSCHED_RECIPE": BINDINGS / "node/example_journal.js"}
+    by = {"Python": [sys.executable, "-B", "job.py"], "Go": [tmp_path / "go-job"], "Node": ["node", "job.js"]}
+    for number, (name, words) in enumerate(by.items(), 1):
+        killed = {"ZSCHED_TEST_KILLED": "1"} if name == "Go" else {}
+        ended = subprocess.run([*words, *["kill"] * (name != "Go")], cwd=tmp_path, capture_output=True, check=False,
+                               env=CLEAN | {it: str(value) for it, value in (variables | killed).items()})
+        found = (tmp_path / "job.journal").read_text()
+        assert ended.returncode == -9 and f"\nattempts {number}\n" in found
+        assert f"\nerror killed in attempt {number}\nend\n" in found
+    assert ran(by["Python"], tmp_path, **variables) == "busy\n"
+    for words in by.values():
+        assert "gave up after 4 attempts: ValueError: busy\n" in ran(words, tmp_path, **variables)
 
 
 def crate(library, tmp_path):
@@ -324,7 +677,7 @@ def test_the_example_in_rust_waits_for_its_server_and_its_tests_pass(library, tm
     cargo = ["cargo", "--quiet", "--offline"]
     assert ran([*cargo, "run", "--example", "retry"], folder, **variables) == READY
     said = ran([*cargo, "test"], folder, **variables)
-    assert re.findall(r"\d+ passed", said) == ["0 passed", "16 passed", "5 passed"]
+    assert re.findall(r"\d+ passed", said) == ["0 passed", "21 passed", "11 passed"]
     ran([*cargo, "check", "--no-default-features"], folder, **variables)
 
 
@@ -339,9 +692,15 @@ def test_the_example_under_tokio_waits_for_its_server(library, tmp_path):
 
 
 @pytest.mark.full
-def test_the_example_in_java_waits_for_its_server_and_its_test_passes(library, tmp_path):
+def test_the_example_in_java_waits_for_its_server_and_its_test_and_page_pass(library, tmp_path):
     need("javac", JNA)
-    sources = [*BINDINGS.glob("java/zsched/*.java"), BINDINGS / "java" / "Example.java", CLIENTS / "OnlyInJava.java"]
+    pages = {"Fetch": "the page of a\n", "FetchTest": ""}
+    for name, code in zip(pages, snippets("java"), strict=True):
+        (tmp_path / f"{name}.java").write_text(code)
+    sources = [*BINDINGS.glob("java/zsched/*.java"), BINDINGS / "java" / "Example.java", CLIENTS / "OnlyInJava.java",
+               *(f"{name}.java" for name in pages)]
     ran(["javac", "-Xlint:all", "-Werror", "-cp", JNA, "-d", "classes", *sources], tmp_path)
-    for name, said in [("Example", READY), ("OnlyInJava", "")]:
-        assert ran(["java", "-cp", f"{JNA}:classes", f"-Djna.library.path={library}", name], tmp_path) == said
+    java = ["java", "-cp", f"{JNA}:classes"]
+    for name, said in [("Example", READY), ("OnlyInJava", ""), *pages.items()]:
+        assert ran([*java, f"-Djna.library.path={library}", name], tmp_path) == said
+    assert ran([*java, "-Dzsched.library=/nowhere/libzsched.so", "OnlyInJava", "missing"], tmp_path) == ""

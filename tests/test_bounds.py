@@ -14,9 +14,10 @@ from support import run
 from test_driven import Reached
 
 # The interval run takes long for many steps: only every hundredth policy has all of them.
-SHORT, EVERY = 100, int(os.environ.get("ZSCHED_LONG", "100"))
+SHORT, LONG, EVERY = 100, 20000, int(os.environ.get("ZSCHED_LONG", "100"))
 # How many driven histories a policy has, and the steps of each.
 HISTORIES, HISTORY_STEPS = 3, 40
+TIMES = [0, 1, 3, 20, 700, 10 ** 5, intervals.MOST]
 INPUTS = [0, 1, 2, 3, 4, 5, 7, 404, 503, intervals.MOST]
 
 
@@ -26,7 +27,7 @@ def follow(chance, s, b, waits):
     pairs, memo, waited, (shortest, longest), (least, most) = [], {}, 0, b["attempt"].values(), b["attempts"].values()
     times = [shortest, longest,
              (shortest + longest) // 2] if longest else [shortest + it for it in (0, 0, 1, 4, 39, 999)]
-    for n in range(1, min(HISTORY_STEPS, b["steps_seen"]) + 1):
+    for n in range(1, HISTORY_STEPS + 1):
         pairs.append((moment, chance.choice(INPUTS)))
         _, x = reference.step(s, reference.History(pairs, memo, 0, n))
         low, high = intervals.driven(waits, *[0 if x is None else x - moment] * 2)
@@ -36,7 +37,12 @@ def follow(chance, s, b, waits):
         if x is None:
             assert n >= least and not b["never_gives_up"]
             return
-        assert n != most and high <= b["longest_wait"]
+        assert n != most and (high <= b["longest_wait"] or n > b["steps_seen"])
+        assert b["every"] is None or high <= b["every"]
+        assert b["is_cut"] or n <= b["steps_seen"]
+        # The next attempt begins at the end of this wait.
+        began = max(shortest, 1) + moment - first + low
+        assert began > b["within"]["time"] or n < b["within"]["most"]
         assert b["total_wait"] is None or waited + high <= b["total_wait"]
         wait = chance.choice([low, low, high, (low + high) // 2])
         waited += wait
@@ -48,23 +54,24 @@ def follow(chance, s, b, waits):
 @pytest.mark.parametrize("chunk", generator.chunks(2000))
 def test_no_driven_history_leaves_the_bounds_and_the_interval_run_has_them(chunk, bounds):
     def holds(words):
-        text, is_long, durations, waits = words
+        text, is_long, durations, waits, time = words
         try:
             s = reference.read_schedule(text.encode())
         except reference.Fault:     # of many `resetWhen`
             return
-        steps = intervals.STEPS if is_long else SHORT
-        given = [*intervals.options(durations, waits), "--steps", str(steps)]
+        steps = LONG if is_long else SHORT
+        given = [*intervals.options(durations, waits), "--steps", str(steps), "--within", f"{time}ms"]
         status, output, errors = run([bounds, *given], f"{text}\n".encode())
         assert (status, errors) == (0, b"")
         line = json.loads(output)
         assert reference.read_schedule(line.pop("policy").encode()) == s
-        assert line == intervals.bounds(s, durations, steps, waits)
+        within = {"time": time, "most": intervals.attempts_within(s, durations, waits, time, steps)}
+        assert line == intervals.bounds(s, durations, steps, waits) | {"within": within}
         for k in range(HISTORIES):
             follow(random.Random(f"{text} {k}"), s, line, waits)
     generator.hold(chunk, holds, generator.made(lambda chance: (
         intervals.policy(chance), generator.seldom(chance, EVERY), chance.choice(intervals.DURATIONS),
-        chance.choice(intervals.WAITS))))
+        chance.choice(intervals.WAITS), chance.choice(TIMES))))
 
 
 def test_histories_and_bounds_of_small_policies_meet():

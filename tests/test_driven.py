@@ -1,6 +1,6 @@
 """What zsched-bounds prints of small policies, against everything that a driver can do with them: each duration of an
 attempt, each wait, and each input on which a test may depend. No history may leave the bounds, and most bounds must be
-reached exactly."""
+reached exactly. `pytest tests/test_driven.py -n 2 -rP --examples 8` tries some 22,000 policies, and shows how many."""
 import collections
 import contextlib
 import json
@@ -12,15 +12,19 @@ import generator
 import pytest
 import reference
 import zio_model as zio
-from support import run
+from support import examples, run
 
-POLICIES = 400      # of each kind
+MADE = 400      # policies of each kind, of which FLOORS are
+POLICIES = examples(MADE)
 # The most steps of a history, and about how much is looked at of a policy: those that have more aren't counted.
 STEPS, WORK, LAST = 40, 60000, reference.LAST_TICK
-# Waits of drivers, as in bounds.py.
-SPREAD = [(0, 100, 0, 0), (50, 100, 0, 0), (80, 120, 0, 0), (50, 150, 1, 0), (100, 100, 3, 0), (100, 100, 0, 7),
-          (33, 67, 2, 5)]
 ATTEMPTS = [(1, 1), (1, 3), (2, 6), (1, 8), (3, 12)]
+# Attempts and waits of drivers, as in bounds.py. Of wide ones only some durations are tried.
+EXACT, SPREAD, WIDE = (ATTEMPTS, [intervals.EXACT]), (ATTEMPTS, [
+    (0, 100, 0, 0), (50, 100, 0, 0), (80, 120, 0, 0), (50, 150, 1, 0), (100, 100, 3, 0), (100, 100, 0, 7),
+    (33, 67, 2, 5)]), ([(1, 1), (1, 8), (20, 5020), (1, 10 ** 14), (LAST, LAST)], [
+        intervals.EXACT, (0, 1000, 0, 0), (250, 300, 50, 900), (0, 0, 0, 0), (1, 1, 5000, 0), (50, 150, 0, 10 ** 14),
+        (100, 100, intervals.MOST, 0), (0, 100, intervals.MOST, 30)])
 
 
 def fixed(period):
@@ -59,15 +63,17 @@ class Reached:
     def __init__(self, s, inputs, driver, steps=STEPS, is_sampled=False):
         (self.shortest, self.longest), (self.low, self.high, self.late, self.asked) = driver
         self.least, self.most, self.wait, self.total, self.run = None, 0, 0, 0, self.longest
+        # The earliest begin of each attempt but the first one, after that of the first one.
+        self.begins = collections.defaultdict(lambda: LAST)
         schedule, self.is_sampled = schedule_of(s), is_sampled
         # Steps of one state at one moment: the longest waits before it, and the number of histories up to it.
-        self.histories, self.work, self.open = 0, 0, {(schedule.initial, 0): (0, 1)}
+        self.steps, self.histories, self.work, self.open = 0, 0, 0, {(schedule.initial, 0): (0, 1)}
         while self.open and self.most < steps and self.work < WORK:
             before, self.open, self.most = self.open, {}, self.most + 1
             for (state, m), (waited, histories) in before.items():
                 for i in inputs:
                     after, _, then = schedule.step(m, i, state)
-                    self.work, self.histories = self.work + 10, self.histories + histories
+                    self.steps, self.work, self.histories = self.steps + 1, self.work + 10, self.histories + histories
                     if then is None:
                         self.least = self.least or self.most
                         self.see(m, waited, 0, 0)
@@ -80,8 +86,9 @@ class Reached:
 
     def go_on(self, after, m, wait, waited, histories):
         """Adds each moment of the next step."""
-        least, most = wait * self.low // 100, max(-(-wait * self.high // 100), self.asked) + self.late
+        least, most = wait * self.low // 100, reference.sat(max(-(-wait * self.high // 100), self.asked) + self.late)
         self.see(m, waited, most, self.longest)
+        self.begins[self.most] = min(self.begins[self.most], self.shortest + m + least)
         times = range(least + self.shortest, min(most + self.longest, LAST - m) + 1)
         times = sorted({*times[:2], *times[-1:]}) if self.is_sampled else times
         self.work += len(times)
@@ -89,6 +96,18 @@ class Reached:
             longest, number = self.open.get((after, m + time), (0, 0))
             waits = waited + min(most, time - self.shortest)
             self.open[after, m + time] = max(longest, waits), number + histories
+
+    def judge(self, line, where):
+        """Asserts that no history leaves the bounds of a line of zsched-bounds. Returns the attempts in its time."""
+        least, most = line["attempts"].values()
+        begun = 1 + sum(at <= line["within"]["time"] for at in self.begins.values())
+        limits = [(self.most, most), (self.wait, line["every"]), (self.total, line["total_wait"]),
+                  (self.run, line["longest_run"]), (begun, line["within"]["most"])]
+        assert self.least is None or least <= self.least, (where, line, self.least)
+        assert all(bound is None or x <= bound for x, bound in limits), (where, line, limits)
+        assert self.wait <= line["longest_wait"] or self.most > line["steps_seen"], (where, line, self.wait)
+        assert line["is_cut"] or self.most <= line["steps_seen"], (where, line, self.most)
+        return begun
 
 
 def real_policy(chance):
@@ -110,49 +129,70 @@ def random_policy(chance):
                           f"({text} && elapsed.whileOutput(< {chance.choice(range(3, 21))}))"])
 
 
-def policies(make, has_waits):
+def phases(chance):
+    """Two policies in turn, each with a limit of time, perhaps beside a third one."""
+    one, other, beside = (real_policy(chance) for _ in range(3))
+    text = f"({one} andThenEither {other})"
+    return chance.choice([text, f"({text} && {beside})", f"({text} || {beside})", f"({one} andThenEither {text})"])
+
+
+def policies(make, drivers):
     """Policies by what their driver may do: durations of attempts and waits."""
     chance, made = random.Random(2026), collections.defaultdict(list)
     for _ in range(POLICIES):
-        driver = chance.choice(ATTEMPTS), chance.choice(SPREAD) if has_waits else intervals.EXACT
+        driver = tuple(chance.choice(them) if len(them) > 1 else them[0] for them in drivers)
         text = make(chance)
         with contextlib.suppress(reference.Fault):
             made[driver].append((text, reference.read_schedule(text.encode())))
     return made
 
 
-def said(program, driver, texts):
-    """What zsched-bounds prints of policies and a driver, as `Reached` has it."""
-    words = [program, *intervals.options(*driver), "--steps", str(STEPS)]
-    status, output, errors = run(words, "\n".join(texts).encode() + b"\n")
-    assert (status, errors) == (0, b"")
-    for line in map(json.loads, output.splitlines()):
-        yield *line["attempts"].values(), *(line[it] for it in ("longest_wait", "total_wait", "longest_run"))
+def searched(program, make, drivers, steps, within, is_sampled=False):
+    """Policies of a kind: what a search reaches of each, the line of zsched-bounds, and the attempts within a time. No
+    history leaves a bound."""
+    all_steps, histories, number = 0, 0, 0
+    for driver, made in policies(make, drivers).items():
+        status, output, errors = run([program, *intervals.options(*driver), "--steps", str(steps), "--within",
+                                      f"{within}ms"], "".join(f"{text}\n" for text, _ in made).encode())
+        assert (status, errors) == (0, b"")
+        for (text, s), line in zip(made, map(json.loads, output.splitlines()), strict=True):
+            it = Reached(s, intervals.edges(text), driver, is_sampled=is_sampled)
+            all_steps, histories, number = all_steps + it.steps, histories + it.histories, number + 1
+            yield it, line, it.judge(line, (text, driver))
+    print(f"{number} policies, {all_steps} steps of {histories} histories")
+    assert number >= POLICIES * 9 // 10 and histories > 10 ** 6, (number, histories)
 
 
-# Of each kind: how it is made, whether drivers have other waits than the schedule's, and what share of the policies
-# reaches the least and the most steps, the longest wait, all waits and the longest run, in percent.
-FLOORS = {"real": (real_policy, False, (99, 92, 100, 91, 90)),
-          "real_with_waits": (real_policy, True, (99, 94, 100, 92, 91)),
-          "random": (random_policy, False, (97, 96, 99, 93, 93)),
-          "random_with_waits": (random_policy, True, (99, 96, 98, 93, 90))}
+# Of each kind: how it is made, what drivers may do, and what share of the policies reaches the least and the most
+# steps, the longest wait, all waits and the longest run, in percent.
+FLOORS = {"real": (real_policy, EXACT, (99, 92, 100, 91, 90)),
+          "real_with_waits": (real_policy, SPREAD, (99, 94, 100, 92, 91)),
+          "random": (random_policy, EXACT, (97, 96, 99, 93, 93)),
+          "random_with_waits": (random_policy, SPREAD, (99, 96, 98, 93, 90)),
+          "random_with_wide": (random_policy, WIDE, (85, 80, 99, 70, 68))}
 
 
 @pytest.mark.parametrize("kind", FLOORS)
 def test_bounds_hold_for_all_that_a_driver_does_and_most_are_reached(kind, bounds):
-    make, has_waits, floors = FLOORS[kind]
-    met, had, histories = [0] * 5, 0, 0
-    for driver, made in policies(make, has_waits).items():
-        for (text, s), numbers in zip(made, said(bounds, driver, [text for text, _ in made]), strict=True):
-            it = Reached(s, intervals.edges(text), driver)
-            histories += it.histories
-            least, *greatest = numbers
-            reached = it.most, it.wait, it.total, it.run
-            where = text, driver, numbers, it.least, reached
-            assert it.least is None or least <= it.least, where
-            assert all(bound is None or x <= bound for x, bound in zip(reached, greatest)), where
-            if not it.open:
-                had += 1
-                met = [n + (x == bound) for n, x, bound in zip(met, (it.least, *reached), numbers)]
-    assert had >= POLICIES // 2 and histories > 10 ** 6, (had, histories)
-    assert all(100 * n >= floor * had for n, floor in zip(met, floors)), (met, had)
+    make, drivers, floors = FLOORS[kind]
+    met, had = [0] * 5, 0
+    for it, line, _ in searched(bounds, make, drivers, STEPS, 12, is_sampled=drivers is WIDE):
+        if not it.open:
+            had += 1
+            reached = it.least, it.most, it.wait, it.total, it.run
+            said = *line["attempts"].values(), *(line[name] for name in ("longest_wait", "total_wait", "longest_run"))
+            met = [n + (x == bound) for n, x, bound in zip(met, reached, said)]
+    print(f"{had} searched to the end, {met} bounds reached")
+    assert had >= POLICIES // 2, had
+    assert POLICIES > MADE or all(100 * n >= floor * had for n, floor in zip(met, floors)), (met, had)
+
+
+@pytest.mark.parametrize("steps, within", [(3, 12), (STEPS, 30)])
+def test_limits_by_a_policy_s_form_hold_after_the_steps_that_are_looked_at(steps, within, bounds):
+    """Three steps are fewer than most histories of two phases have, so the limits are those of the form alone."""
+    had, met = collections.Counter(), 0
+    for _, line, begun in searched(bounds, phases, SPREAD, steps, within):
+        had.update({"all": 1, "most": line["attempts"]["most"] is not None, "run": line["longest_run"] is not None})
+        met += begun == line["within"]["most"]
+    assert had["most"] >= had["all"] // 3 and had["run"] >= had["all"] // 5, had
+    assert steps < STEPS or met >= had["all"] // 3, (met, had)

@@ -3,13 +3,14 @@ makes allocations fail and calls from several threads; also under sanitizers and
 import ctypes
 import random
 import re
+import signal
 import subprocess
 
 import pytest
 
 from histories import History, histories, judge
-from languages import STRICT, client, need, request
-from support import TOP, rows, tree
+from languages import STRICT, client, need, ran, request
+from support import TOP, rows, run, tree
 
 REFUSED = 250
 UNDER_VALGRIND = 40
@@ -18,10 +19,12 @@ VALGRIND = ["valgrind", "--quiet", "--error-exitcode=9", "--leak-check=full", "-
 # Schedules of the greatest depth.
 DEEPEST = rows("deepest.jsonl")
 # A schedule, the numbers of struct zs_run_bounds for 1000 steps, the same for attempts of at most 5 s, and the reasons.
+# A longest run is 1 ms more than these say: each end is before it, to the nanosecond.
 BOUNDS = {it[0]: it[1:3]
           for it in (line.split("\t") for line in (TOP / "tests" / "bounds.tsv").read_text().splitlines())}
-# A policy's program, by crates/zs_c/specs/Program.antt and Code.antt.
+# The version of a state, and a policy's program, by crates/zs_c/specs/Program.antt and Code.antt.
 POLICY = b"((exponential(100) || spaced(5000)) && recurs(8)).whileInput(>= 500)"
+VERSION = 0x7a73746174650001
 CODE = [14, 5, 500, 11, 8, 4, 12, 3, 2, 10, 100, 2, 5, 5000, 4, 8]
 
 
@@ -74,7 +77,7 @@ def test_bounds_of_policies_are_those_that_were_worked_out_by_hand(client):
     asked = [("recurs(3)", 3), ("forever", 0), ("recurs(1)", 9, 7, 7), ("recurs(1)", 9, 0, 5), ("?", 9, 6, 5)]
     asked = [request("bounds", *it)
              for it in asked + [(text, 1000, *more) for more in [(), (1, 5000)] for text in BOUNDS]]
-    wanted = ["0 3 4" + " 0" * 8, "0 0 1" + " 0" * 8, "0 2 2 1 2 0 1 0 1 14 0", *["10" + " 0" * 10] * 2]
+    wanted = ["0 3 4" + " 0" * 8, "0 0 1" + " 0" * 8, "0 2 2 1 2 0 1 0 1 15 0", *["10" + " 0" * 10] * 2]
     wanted += [f"0 {it[place]} 0" for place in [0, 1] for it in BOUNDS.values()]
     assert client("C").says(asked, "threads") == client("C watched").says(asked) == wanted
 
@@ -95,6 +98,54 @@ def test_the_deepest_schedules_need_no_more_stack_than_the_header_says(client):
     judge(client("C"), asked, "program", "threads")
     found = client("C").says([request("bounds", text, 9) for text in DEEPEST], "threads")
     assert [line.split()[0] for line in found] == ["0"] * len(DEEPEST)
+
+
+# Runs zs_bounds of each line in a thread of the default size.
+THREADS = """
+#include <pthread.h>
+#include <stdio.h>
+#include <string.h>
+#include "zsched.h"
+static void *work(void *line) {
+    zs_driver driver = ZS_DRIVER;
+    zs_run_bounds bounds = ZS_RUN_BOUNDS;
+    uint64_t at;
+    printf("%d\\n", (int)zs_bounds(line, strcspn(line, "\\n"), &driver, 9, &bounds, &at));
+    return 0;
+}
+int main(void) {
+    static char line[100000];
+    pthread_t it;
+    while (fgets(line, sizeof line, stdin))
+        if (pthread_create(&it, 0, work, line) != 0 || pthread_join(it, 0) != 0)
+            return 1;
+    return 0;
+}
+"""
+
+
+def test_a_program_of_musl_has_the_stack_that_the_header_says(library, tmp_path):
+    """The same program without that option shows that the default is too little."""
+    need("musl-gcc")
+    (tmp_path / "threads.c").write_text(THREADS)
+    option, = re.findall(r"(-Wl,-z,stack-size=\d+)\.", (TOP / "include/zsched.h").read_text())
+    words = ["musl-gcc", "-static", "-I", TOP / "include", "threads.c", library / "libzsched.a", "-o"]
+    given = "".join(f"{text}\n" for text in DEEPEST).encode()
+    ran([*words, "with", option], tmp_path)
+    ran([*words, "without"], tmp_path)
+    assert run(str(tmp_path / "with"), given) == (0, b"0\n" * len(DEEPEST), b"")
+    assert run(str(tmp_path / "without"), given)[0] == -signal.SIGSEGV
+
+
+def test_go_has_the_stack_where_threads_have_little(client):
+    asked, small = [request("bounds", text, 9) for text in DEEPEST], ["sh", "-c", 'ulimit -s 128; exec "$@"', "sh"]
+    assert client("Go").says(asked, before=small) == client("Go").says(asked)
+
+
+@pytest.mark.parametrize("page", ["include/zsched.h", "docs/LIBRARY.md", *(
+    f"bindings/{it}/README.md" for it in ["c", "go", "java", "node", "python", "rust"])])
+def test_each_page_says_how_much_stack_bounds_need(page):
+    assert re.search(r"192 KiB|\(192 for `zs_bounds`\)", (TOP / page).read_text())
 
 
 def test_long_texts_many_steps_and_many_words_are_taken(client):
@@ -153,25 +204,25 @@ def array(words):
 
 def test_a_program_is_the_words_that_its_definition_says(library):
     calls, at, wanted = ctypes.CDLL(str(library / "libzsched.so")), ctypes.c_uint64(), program_of(CODE)
-    words, state = array([7] * (len(wanted) + 1)), array([7] * 11)
+    words, state = array([7] * (len(wanted) + 1)), array([7] * 12)
     assert calls.zs_compile(POLICY, ctypes.c_size_t(len(POLICY)), *words, ctypes.byref(at)) == 0
     assert (at.value, list(words[0])) == (0, [*wanted, 7])
     assert calls.zs_program_begin(*words, *state) == 0
-    assert list(state[0]) == [wanted[1], 0, 0, 0, 100, 100, 0, 0, 0, 0, 7]
+    assert list(state[0]) == [VERSION, wanted[1], 0, 0, 0, 100, 100, 0, 0, 0, 0, 7]
 
 
 def test_a_zeroed_program_and_one_with_a_byte_changed_are_rejected(library):
-    calls, right, state = ctypes.CDLL(str(library / "libzsched.so")), program_of(CODE), array([7] * 10)
+    calls, right, state = ctypes.CDLL(str(library / "libzsched.so")), program_of(CODE), array([7] * 11)
     wrong = [[], [0] * 20, [right[0]] + [0] * 19, [right[0], 0, 0, 0], [right[0], 9, 0, 9], program_of([]),
              program_of([], 0)]
     wrong += [[word ^ (0xa5 << bits if at == place else 0) for at, word in enumerate(right)]
               for place in range(len(right)) for bits in range(0, 64, 8)]
-    assert {calls.zs_program_begin(*array(words), *state) for words in wrong} == {8} and list(state[0]) == [7] * 10
+    assert {calls.zs_program_begin(*array(words), *state) for words in wrong} == {8} and list(state[0]) == [7] * 11
     assert calls.zs_program_begin(*array(right), *state) == 0
 
 
 def test_a_step_of_a_forged_program_visits_at_most_1000_nodes(library):
-    calls, state, told = ctypes.CDLL(str(library / "libzsched.so")), array([7] * 6), [array([0])[0], array([0])[0]]
+    calls, state, told = ctypes.CDLL(str(library / "libzsched.so")), array([7] * 7), [array([0])[0], array([0])[0]]
     # Each of 30 resets, whose test passes always, steps its part twice.
     program = array(program_of([17, 0, 5, 0] * 30 + [1], 2))
     assert calls.zs_program_begin(*program, *state) == 0
@@ -186,6 +237,23 @@ def begun(library, text):
     assert calls.zs_compile(text, ctypes.c_size_t(len(text)), *program, at[0]) == 0
     assert calls.zs_program_begin(*program, *state) == 0
     return calls, program, state
+
+
+# A word of a state, what is added to it, and the number of the error: another version, and another program.
+@pytest.mark.parametrize("place, more, wanted", [(0, 1, 18), (0, -1, 18), (0, 2 ** 63, 18), (1, 1, 9), (1, -1, 9)])
+def test_a_state_of_another_version_or_program_is_rejected_and_nothing_changes(library, place, more, wanted):
+    calls, program, state = begun(library, b"(spaced(30) && elapsed)")
+    moment, numbers = ctypes.c_uint64(7), [array([5])[0], array([5])[0]]
+    assert calls.zs_program_step(*program, *state, moment, moment, *numbers) == 0
+    right = state[0][place]
+    state[0][place] = right + more & 2 ** 64 - 1
+    before, room = list(state[0]), ctypes.create_string_buffer(b"----")
+    assert calls.zs_program_step(*program, *state, moment, moment, *numbers) == wanted
+    assert calls.zs_plan(*program, *state, ctypes.byref(Turn(0, 9_000_000)), numbers[0]) == wanted
+    assert calls.zs_output(*program, *state, room, ctypes.c_size_t(4), numbers[1]) == wanted
+    assert (list(state[0]), room.value, [it[0] for it in numbers]) == (before, b"----", [0, 0])
+    state[0][place] = right
+    assert calls.zs_output(*program, *state, room, ctypes.c_size_t(4), numbers[1]) == 0 and numbers[1][0] == 5
 
 
 def test_an_output_is_cut_where_its_room_ends_and_there_is_none_before_a_step(library):
@@ -282,21 +350,24 @@ def test_a_driver_that_cannot_be_has_no_bounds(library, driver):
     assert bounds_of(library, b"recurs(2)", **driver) == (10, [7] * 9)
 
 
-# Attempts of 30 ms and the waits between them, by hand: 6 x 30 + 5 x 10, 4 x 30 + 10 + 20 + 40.
-@pytest.mark.parametrize("text, longest_run", [
-    (b"(spaced(10) && recurs(5))", 230), (b"(exponential(10) && recurs(3))", 190)])
-def test_a_loop_whose_attempts_are_in_time_ends_within_its_longest_run(library, text, longest_run):
+# The most ms of an attempt, the nanoseconds of those of the first run, and when the last of them ends, by hand:
+# 6 x 30 + 5 x 10, 4 x 30 + 10 + 20 + 40 ms. Of the third the first step is at 5 ms, and the 11th at 54, since that
+# attempt ends at 54.999999 ms: 49 ms are less than 50, so there is a 12th.
+@pytest.mark.parametrize("text, most, first, latest", [
+    (b"(spaced(10) && recurs(5))", 30, [30_000_000] * 6, 230_000_000),
+    (b"(exponential(10) && recurs(3))", 30, [30_000_000] * 4, 190_000_000),
+    (b"(identity && elapsed).whileOutput(_2 < 50)", 5, [5_000_000, 4_999_999, *[5_000_000] * 10], 59_999_999)])
+def test_each_attempt_in_time_ends_before_the_longest_run(library, text, most, first, latest):
     random.seed(0)
-    number, bounds = bounds_of(library, text, has_most=1, most=30)
-    assert (number, bounds[-2:]) == (0, [1, longest_run])
-    latest = []
-    for run in range(100):
-        plan, number, begin, ended = planner(library, text), 0, 0, 0
+    number, bounds = bounds_of(library, text, has_most=1, most=most)
+    assert (number, bounds[-2]) == (0, 1) and bounds[-1] == latest // 1_000_000 + 1
+    for run in range(200):
+        plan, number, begin, ended, takes = planner(library, text), 0, 0, 0, list(first)
         while number == 0:
-            ended = begin + (random.choice([0, random.randrange(30_000_001)]) if run else 30_000_000)
+            ended = begin + (random.choice([0, random.randrange(most * 1_000_000 + 1)]) if run else takes.pop(0))
             number, begin = plan(Turn(begin, ended))
-        latest.append(ended // 1_000_000)
-    assert max(latest) == latest[0] == longest_run
+        assert ended < bounds[-1] * 1_000_000
+        assert run or (ended, takes) == (latest, [])
 
 
 def test_the_header_is_one_of_cpp_too():

@@ -2,9 +2,13 @@
 pictures. What the command prints, and its faults, are the cases in tests/cases/zsched-outage."""
 import io
 import json
+import math
+import multiprocessing
+import os
 import re
 import sys
 import time
+from statistics import NormalDist
 from unittest import mock
 
 import pytest
@@ -16,11 +20,13 @@ from browser import framed
 from reports import jobs_of
 from support import TOP, draw, examples, job, plan, run, run_here
 from zsched_tools import drawn, program
+from zsched_tools.command import Border
 from zsched_tools.drawing import text_width
 from zsched_tools.outage import certificate, command, curve, panels, scenario, search, world
 from zsched_tools.outage.world import DENIED, Bucket, Ending, Service
 from zsched_tools.place import Cause
 from zsched_tools.progress import Now
+from zsched_tools.reports import joined
 
 CASES = TOP / "tests" / "cases" / "zsched-outage"
 SMALL = json.loads((CASES / "three_clients_meet_an_outage" / "outage.json").read_text())
@@ -48,7 +54,7 @@ def picture(found, figures, *more): return "\n".join(panels.draw_curves(found, f
 def test_the_recipe_shows_the_case():
     page = (TOP / "docs" / "RECIPES.md").read_text().split("### Many clients meet an outage\n")[1]
     assert json.loads(re.search(r"```json\n(.*?)```", page, re.S)[1]) == SMALL
-    table = re.search(r"```console\n\$ tools/zsched-outage outage.json\n(.*?)```", page, re.S)[1]
+    table = re.search(r"```console\n\$ tools/zsched-outage outage.json \| head -n \d+\n(.*?)```", page, re.S)[1]
     assert (CASES / "three_clients_meet_an_outage" / "stdout").read_text().startswith(table)
 
 
@@ -79,7 +85,10 @@ SCENARIOS = st.fixed_dictionaries({
     "horizon": st.integers(2000, 7000), "seed": st.integers(0, 99),
     "windows": st.lists(WINDOWS, min_size=1, max_size=4).map(laid),
     "outcomes": st.fixed_dictionaries({
-        "up": outcome("ok", 200), "down": outcome("err", 503), "full": outcome("err", 429),
+        "up": st.one_of(outcome("ok", 200), st.just({"ms": {"p50": 60, "p99": 700}, "ok": 200, "fail": "40%"}),
+                        st.just([{"ms": 90, "ok": 200}, {"share": "30%", "ms": 700, "err": 500}])),
+        "down": st.one_of(outcome("err", 503), st.just({"ms": {"p50": 20, "p99": 90}, "err": 503})),
+        "full": outcome("err", 429),
         "slow": st.sampled_from([{"ms": 800, "err": 504}, {"ms": 700, "ok": 200}])}),
     "clients": st.fixed_dictionaries({"number": st.integers(1, 6), "within": st.sampled_from([0, 500, 2000])}),
     "policies": st.fixed_dictionaries({"steady": st.sampled_from(POLICIES)}),
@@ -92,7 +101,8 @@ SCENARIOS = st.fixed_dictionaries({
 
 def next_begin(found, client, schedule, kinds):
     """When the attempt after these begins, or None, and whether the schedule is done, by the reference."""
-    script = [json.loads(found.outcomes[kind].entry()) for kind in kinds] + [{"ms": 1, "ok": 0}]
+    outcomes = [found.outcome(kind, client, number) for number, kind in enumerate(kinds)]
+    script = [json.loads(it.entry()) for it in outcomes] + [{"ms": 1, "ok": 0}]
     one = {"name": "c", "mode": "retry", "schedule": schedule, "start": found.starts[client], "script": script}
     [ran] = jobs_of(reference.answer(json.dumps({"horizon": found.horizon, "jobs": [one]}).encode())[1])
     return ran.attempts[-1].begin if len(ran.attempts) > len(kinds) else None, ran.how == "failed"
@@ -112,9 +122,9 @@ def decided(found, schedules):
             kinds[client].append(service.kind(moment))
             if bucket:
                 bucket.began(len(kinds[client]) == 1, moment)
-            end = moment + found.outcomes[kinds[client][-1]].ms
+            end = moment + found.outcome(kinds[client][-1], client, len(kinds[client]) - 1).ms
             events += [(end, 0, client)] if end <= found.horizon else []
-        elif found.outcomes[kinds[client][-1]].is_ok:
+        elif found.outcome(kinds[client][-1], client, len(kinds[client]) - 1).is_ok:
             if bucket:
                 bucket.succeeded(len(kinds[client]) == 1)
         else:
@@ -133,7 +143,7 @@ def test_the_search_finds_what_deciding_one_event_after_another_finds(zsched):
     @given(SCENARIOS)
     def compare(parts):
         found = read(parts)
-        schedules = search.schedules_of(found, "steady")
+        schedules = search.Schedules(found, "steady")
         walk = search.Search(found, str(zsched), schedules, 50).settle(lambda share, words: None)
         assert [list(kinds) for kinds in walk.found] == decided(found, schedules)
         denied.extend(kinds for kinds in walk.found if kinds and kinds[-1] >= DENIED)
@@ -146,13 +156,97 @@ def test_the_search_finds_what_deciding_one_event_after_another_finds(zsched):
 @settings(max_examples=examples(30))
 @given(SCENARIOS)
 def test_clients_that_no_plan_has_room_for_have_the_same_figures(zsched, parts):
-    parts["outcomes"] |= {"slow": {"ms": 700, "ok": 200}, "full": parts["outcomes"]["down"]}
+    alike = {name: it if isinstance(it, dict) and isinstance(it["ms"], int) else {"ms": 40, how: 503}
+             for (name, it), how in zip(parts["outcomes"].items(), ["ok", "err"])}
+    parts["outcomes"] |= alike | {"slow": {"ms": 700, "ok": 200}, "full": alike["down"]}
     whole = simulated(zsched, parts)[-1]
     with (mock.patch.multiple(search, MOST_ENTRIES=3, FIRST_LOOK=2, LESS_LOOK=1),
           mock.patch.object(world, "MOST_ENTRIES", 3)):
         cut = simulated(zsched, parts)[-1]
     figures = [it.members("steady") | {"certified": 0, "not_certified": [], "passes": 0} for it in [whole, cut]]
     assert figures[0] == figures[1] and not whole.uncertified
+
+
+def second_outcome(found, client, number):
+    """How an attempt of a service that is up ends, as docs/FORMATS.md has it: in milliseconds, and whether it fails."""
+    def part(which, most): return draw(found.seed, client, 2**63 + which, number, 0, most)
+    normal = NormalDist().inv_cdf((part(2, 2**40 - 1) + 0.5) / 2**40)
+    ms = max(1, round(math.exp(math.log(80) + normal * math.log(600 / 80) / 2.3263478740408408)))
+    return (ms, False) if part(0, 99_999) >= 10_000 else (50, True)
+
+
+def test_outcomes_are_drawn_by_seed_client_and_attempt():
+    found = read({**SMALL, "seed": 5, "outcomes": {"up": {"ms": {"p50": 80, "p99": 600}, "ok": 200, "fail": "10%"}}})
+    for client, number in [(0, 0), (1, 7), *((client, 2) for client in range(400))]:
+        it = found.outcome(scenario.UP, client, number)
+        assert (it.ms, not it.is_ok) == second_outcome(found, client, number)
+    # All attempts from the 1,000th on are drawn as that one.
+    assert found.outcome(scenario.UP, 3, 5000) == found.outcome(scenario.UP, 3, 999)
+
+
+def test_durations_have_their_percentiles():
+    found = read({**SMALL, "outcomes": {"up": {"ms": {"p50": "80ms", "p99": 600}, "ok": 200}}})
+    times = sorted(found.outcome(scenario.UP, client, 0).ms for client in range(20_000))
+    # The percentiles of a log-normal distribution: 1.645 and 2.326 are those of the normal one.
+    for share, wanted in [(0.5, 80), (0.95, 80 * 7.5 ** (1.645 / 2.326)), (0.99, 600)]:
+        assert abs(times[int(20_000 * share)] / wanted - 1) < 0.05
+    assert found.outcomes[scenario.UP].choices[0].spread.duration(2**39) == 80
+
+
+def always_up(up, policy, number=4000, **more):
+    """The figures of clients that start at once in a service that is always up."""
+    parts = {"horizon": "1h", "seed": 2, "clients": {"number": number}, "outcomes": {"up": up}, **more}
+    return parts | {"policies": {"steady": policy}}
+
+
+def test_the_share_that_gives_up_is_a_power_of_that_which_fails(zsched):
+    up = [{"share": "30%", "ms": 50, "err": 503}, {"ms": 40, "ok": 200}]
+    figures = simulated(zsched, always_up(up, "(spaced(100) && recurs(2))"))[-1]
+    lost = sum(all(draw(2, client, 2**63 + 1, number, 0, 99_999) < 30_000 for number in range(3))
+               for client in range(4000))
+    share = 0.3 ** 3
+    assert figures.gave_up == lost and abs(lost - 4000 * share) < 5 * math.sqrt(4000 * share * (1 - share))
+    assert len(figures.times) == 4000 - lost
+
+
+def test_the_attempts_of_a_call_are_those_of_a_geometric_number(zsched):
+    share = 0.25
+    figures = simulated(zsched, always_up({"ms": 40, "ok": 200, "fail": "25%"}, "spaced(100)"))[-1]
+    # The least number of attempts after which so many calls are served; each one before it takes 50 ms and waits 100.
+    least = [next(many for many in range(1, 99) if 1 - share ** many >= part) for part in (0.5, 0.95, 0.99)]
+    assert least == [1, 3, 4]
+    for is_served in (False, True):
+        assert figures.of_calls.shares("attempts", is_served) == least
+        assert figures.of_calls.shares("end", is_served) == [40 + 150 * (many - 1) for many in least]
+        assert figures.of_calls.shares("waited", is_served) == [100 * (many - 1) for many in least]
+    assert abs(figures.attempts / 4000 - 1 / (1 - share)) < 5 * math.sqrt(share) / (1 - share) / math.sqrt(4000)
+
+
+@settings(max_examples=examples(20))
+@given(SCENARIOS, st.sampled_from(["", " mode repeat"]))
+def test_times_and_waits_are_those_of_the_report(zsched, parts, mode):
+    parts = {**parts, "policies": {"steady": parts["policies"]["steady"] + mode}}
+    parts["budget"] = None if mode else parts["budget"]
+    _, _, reports, figures = simulated(zsched, parts)
+    jobs = [job for report in reports for job in jobs_of(report)]
+    for is_served, names in [(False, ["succeeded", "failed", "finished"]), (True, ["succeeded", "finished"])]:
+        ended = [(it.at - it.attempts[0].begin, sum(it.waits)) for it in jobs if it.how in names]
+        for which, place in [("end", 0), ("waited", 1)]:
+            assert list(getattr(figures.of_calls, which)[is_served]) == sorted(it[place] for it in ended)
+
+
+def test_a_wait_that_is_asked_for_is_in_the_report():
+    parts = {**SMALL, "outcomes": {"down": {"ms": 100, "err": 503, "retry_after": 900}}, "clients": {"number": 1},
+             "policies": {"steady": "spaced(400) asked 1s"}}
+    found = read(parts).limited(read(parts).policies["steady"][0])
+    report = (b"job c0 retry\nattempt 1 0..100 err 503\nstep 1 out 0 next %d\nattempt 2 %d..%d ok 200\n"
+              b"end succeeded 200 at %d polls 4\npolls 4\n")
+    right, early = report % (1000, 1000, 1040, 1040), report % (999, 999, 1039, 1039)
+    assert certify(found, right, right)[0] == [Ending("succeeded", 200, 1040, 2)]
+    # The service is up at 999 too, but the client was to wait until 1000.
+    found.windows = [it._replace(end=900) for it in found.windows[:1]]
+    with pytest.raises(certificate.Uncertified, match="attempt 2 begins at 999, .* asks for 900 ms"):
+        certify(found, early, early)
 
 
 def test_a_bucket_gets_tokens_back_and_is_never_more_than_full():
@@ -191,15 +285,70 @@ def test_a_share_of_what_runs_and_of_what_starts():
     assert [deposits.lets_retry(True, moment) for moment in [100, 159, 160]] == [False, False, True]
 
 
+def certify(found, simulated, report):
+    """The clients of a report, for the runs of another one, in which all jobs end."""
+    runs = [world.Run(it.begins, b"", world.CUT) for it in certificate.clients_in(simulated)]
+    walk = world.Walk(found, runs)
+    return walk.endings, certificate.certified(found, runs, walk, range(len(runs)), [report])
+
+
 def test_a_report_with_outcomes_of_another_scenario_is_no_certificate():
     endings = [Ending("succeeded", 200, 1200, 3), Ending("succeeded", 200, 2600, 4), Ending("succeeded", 200, 3300, 4)]
-    assert [it.ending for it in certificate.certified(read(SMALL), endings, [REPORT.encode()])] == endings
+    found, clients = certify(read(SMALL), REPORT.encode(), REPORT.encode())
+    assert found == endings == [it.ending for it in clients]
     # c2 is served at 2400, in the second of c1, and its last attempt isn't there.
     late = REPORT[REPORT.rindex("attempt 3 2400..2700"):REPORT.index(" polls 8\npolls")]
     early = REPORT.replace(late, "attempt 3 2400..2600 ok 200\nend succeeded 200 at 2600")
-    said = "^job c2: simulated unfinished; the report has succeeded 200 at 2600 after 3 attempts$"
-    with pytest.raises(certificate.Uncertified, match=said):
-        certificate.certified(read(SMALL), [*endings[:2], Ending("succeeded", 200, 2600, 3)], [early.encode()])
+    other = REPORT.replace("attempt 3 2400..2700 err 429", "attempt 3 2400..2700 err 503")
+    later = REPORT.replace("attempt 2 1000..1300", "attempt 2 1001..1300")
+    for wrong, said in [
+            (early, "c2: simulated succeeded 200 at 3300 after 4 attempts; the report has succeeded 200 at 2600 after "
+                    "3 attempts"),
+            (other, "c2, attempt 3, which begins at 2400: simulated 300 ms, err 429; the report has 300 ms, err 503"),
+            (later, "c1, attempt 2, which begins at 1001: simulated 300 ms, err 429; the report has 299 ms, err 429"),
+            (later.replace("1001..1300", "1001..1301"), "c1, attempt 2: simulated from 1000 on; the report has 1001"),
+            (REPORT.replace("job c1", "job c3"), "c3, but c1 is expected"),
+            (REPORT[:REPORT.index("job c2")] + "polls 9\n", "the report has 2 jobs, and the plan has 3")]:
+        assert wrong != REPORT
+        with pytest.raises(certificate.Uncertified, match=f"^(the report has )?(job )?{re.escape(said)}$"):
+            certify(read(SMALL), REPORT.encode(), wrong.encode())
+
+
+@pytest.mark.parametrize("many", [1, 2, 5])
+def test_any_number_of_processors_gives_the_same_bytes(zsched, tmp_path, many):
+    parts = {**DRAWN, "outcomes": {"up": {"ms": {"p50": 80, "p99": 600}, "ok": 200, "fail": "10%"}}}
+    parts["policies"] = {"steady": "exponential(rand(50, 150))"}
+    whole, context = simulated(zsched, parts), multiprocessing.get_context("fork")
+    running, most = context.Value("i"), context.Value("i")
+
+    def run_plan(program_path, given):
+        with running:
+            running.value += 1
+            most.value = max(most.value, running.value)
+        time.sleep(0.05)
+        with running:
+            running.value -= 1
+        return program.run_plan(program_path, given)
+    with (mock.patch.object(search, "PART", 7), mock.patch.object(search, "run_plan", run_plan),
+          mock.patch.object(search.os, "sched_getaffinity", lambda _: set(range(many)))):
+        cut = simulated(zsched, parts)
+    assert (cut[0], cut[1]) == (whole[0], whole[1]) and len(cut[2]) == -(-len(whole[0]) // 7)
+    assert cut[3].members("steady") == whole[3].members("steady") and cut[3].curve.csv() == whole[3].curve.csv()
+    assert [joined(it) for it in (cut[2], whole[2])] == [whole[2][0]] * 2
+    # So many run side by side, and no more.
+    assert most.value <= many and (many == 1) == (most.value == 1)
+
+
+@pytest.mark.parametrize("said", ["a part of the clients was ended by signal 9", "it ran out of memory"])
+def test_what_ends_a_part_ends_the_run_with_its_reason(zsched, said):
+    def run_plan(*_):
+        if "memory" in said:
+            raise ChildProcessError(said)
+        os.kill(os.getpid(), 9)
+    with (mock.patch.object(search, "PART", 1), mock.patch.object(search, "run_plan", run_plan),
+          mock.patch.object(search.os, "sched_getaffinity", lambda _: {0, 1}),
+          pytest.raises(ChildProcessError, match=said)):
+        simulated(zsched, SMALL)
 
 
 def test_a_draw_is_between_its_bounds_and_takes_each_value():
@@ -227,11 +376,11 @@ def test_draws_come_from_the_seed_and_the_client_alone():
     policies = {"a": "exponential(rand(1, 1000000))", "b": "exponential( rand(1, 1000000))", "c": "recurs(3)"}
     one, other = (read({**SMALL, "policies": policies, "seed": seed}) for seed in [0, 1])
     alone = read({**SMALL, "policies": {"b": policies["b"]}})
-    assert search.schedules_of(one, "b") == search.schedules_of(alone, "b")
-    assert [it.replace(" ", "") for it in search.schedules_of(one, "b")] == search.schedules_of(one, "a")
-    assert not set(search.schedules_of(other, "a")) & set(search.schedules_of(one, "a"))
-    assert len(set(search.schedules_of(one, "a"))) == 3
-    assert search.schedules_of(one, "a") == [f"exponential({draw(0, it, 0, 0, 1, 10**6)})" for it in range(3)]
+    assert list(search.Schedules(one, "b")) == list(search.Schedules(alone, "b"))
+    assert [it.replace(" ", "") for it in list(search.Schedules(one, "b"))] == list(search.Schedules(one, "a"))
+    assert not set(list(search.Schedules(other, "a"))) & set(list(search.Schedules(one, "a")))
+    assert len(set(list(search.Schedules(one, "a")))) == 3
+    assert list(search.Schedules(one, "a")) == [f"exponential({draw(0, it, 0, 0, 1, 10**6)})" for it in range(3)]
 
 
 def test_policies_that_are_compared_get_the_same_draws(zsched):
@@ -277,7 +426,7 @@ def test_a_plan_that_is_too_long_is_cut_by_its_bytes():
 
 def test_more_bytes_than_a_plan_takes_are_said_before_the_run(capsys):
     with mock.patch.object(program, "MAX_BYTES", 32):
-        command.warn_of_lines("steady", search.schedules_of(read(SMALL), "steady"))
+        command.warn_of_lines("steady", search.Schedules(read(SMALL), "steady"))
     assert capsys.readouterr().err == (
         "zsched-outage: policy steady: 3 jobs with schedules of 33 bytes are more than one plan of 10,000 jobs and "
         "32 bytes: -o writes it as JSON lines\n")
@@ -346,19 +495,32 @@ def test_a_picture_of_nothing_says_so(zsched):
 
 
 @pytest.mark.full
-def test_long_names_leave_all_figures_in_sight(zsched, tmp_path):
-    names = ["W" * 64, "a-policy-with-" + "long-" * 10]
+@pytest.mark.parametrize("names", [["W" * 64, "a-policy-with-" + "long-" * 10], [*"abcde", "W" * 64]],
+                         ids=["two", "six"])
+def test_long_names_leave_all_figures_in_sight(names, zsched, tmp_path):
     found = figures_of(zsched, {**SMALL, "policies": dict.fromkeys(names, "spaced(400)")})
     (tmp_path / "page.html").write_text("".join(panels.curve_page(*found)))
-    assert framed(tmp_path, ["page.html"], [360, 400, 1280], """page => {
-  const right = page.querySelector(".table").getBoundingClientRect().right, cells = [...page.querySelectorAll("td")];
-  return [cells.length, cells.filter(it => it.getBoundingClientRect().right > right + 1).length]; }""") == [[38, 0]] * 3
+    count = len(names) * (len([*curve.table(*found)]) - 1)
+    shown = framed(tmp_path, ["page.html"], [360, 400, 1280], """page => {
+  const cells = [...page.querySelectorAll("td")].filter(it => it.getClientRects().length), right = it =>
+    it.getBoundingClientRect().right;
+  return [cells.length, cells.filter(it => right(it) > right(it.closest(".table")) + 1).length]; }""")
+    assert shown == [[count, 0]] * 3
+
+
+def test_the_loads_of_each_panel_have_their_title_above(zsched):
+    found, figures = figures_of(zsched, DRAWN)
+    titles = re.findall(r'y="([\d.]+)">attempts in each second<', picture(found, figures, 360))
+    layout = panels.Layout(found, figures, 360)
+    above = [layout.panel(number) - panels.WORDS for number in range(len(figures))]
+    assert all(0 < top - float(base) < panels.SMALL for top, base in zip(above, titles, strict=True))
 
 
 @pytest.mark.parametrize("is_terminal", [True, False])
 def test_progress_is_written_on_a_terminal_alone(is_terminal):
-    said, words, deadline = io.StringIO(), "steady: pass 1, 3 clients", time.monotonic() + (20 if is_terminal else 0.05)
-    said.isatty = lambda: is_terminal
+    said, words = Border(io.StringIO()), "steady: pass 1, 3 clients"
+    deadline = time.monotonic() + (20 if is_terminal else 0.05)
+    said.stream.isatty = lambda: is_terminal
     with mock.patch.object(sys, "stderr", said), Now(every=0.01) as progress:
         progress.say(words)
         while words not in said.getvalue() and time.monotonic() < deadline:

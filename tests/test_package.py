@@ -16,6 +16,10 @@ from languages import BINDINGS, CLEAN, CLIENTS, JNA, Client, Place, are_kept, ne
 from support import TOP, output_of
 
 VERSION = (TOP / "VERSION").read_text().strip()
+# The version of the package for Python.
+OF_PYTHON = re.search('__version__ = "(.*)"', (BINDINGS / "python/zsched/__init__.py").read_text())[1]
+# That of Debian's packages: that of a tree that isn't released sorts before the next release.
+OF_DEBIAN = OF_PYTHON.replace(".dev0", "~git")
 HEADER, ABI = ((TOP / "include" / name).read_text() for name in ["zsched.h", "zsched.abi"])
 SONAME = re.search(r"^soname (\S+)", ABI, re.M)[1]
 DEBS = [f"libzsched{SONAME.rpartition('.')[2]}", "libzsched-dev", "python3-zsched"]
@@ -23,10 +27,15 @@ PYTHON = "/usr/bin/python3"
 # Where Debian's packages put Maven's plugins (libmaven-compiler-plugin-java and so on), and those that compile.
 MAVEN = pathlib.Path("/usr/share/maven-repo")
 PLUGINS = [MAVEN / f"org/apache/maven/plugins/maven-{name}-plugin" for name in ["compiler", "resources"]]
+# What a library without the name of a C library may take of one. `nm` prints a U before each.
+OF_ANY_C_LIBRARY = {"U", "malloc", "realloc", "free", "memcpy", "memmove", "memset"}
 POLICY = "((exponential(40) || spaced(100)) && recurs(5)).whileInput(>= 500)"
 
 
 def test_functions_and_soname_are_those_of_the_library(library):
+    for folder in [library, library / "aarch64"]:
+        assert set(output_of(["nm", "-D", "--undefined-only", folder / "libzsched.so"]).split()) <= OF_ANY_C_LIBRARY
+        assert "NEEDED" not in output_of(["objdump", "-p", folder / "libzsched.so"])
     told = output_of(["nm", "-D", "--defined-only", "--with-symbol-versions", library / "libzsched.so"])
     names = sorted(re.findall(r"^\w+ T (\w+)@@(\S+)$", told, re.M))
     assert [f"function {name} {node}" for name, node in names] == re.findall(r"^function .*", ABI, re.M)
@@ -61,7 +70,9 @@ def test_a_program_has_the_types_of_the_package_for_python(tmp_path):
     text = (BINDINGS / "python/zsched/__init__.py").read_text()
     names = re.findall(r'"(\w+)"', text.split("__all__")[1].split("]")[0])
     assert len(names) > 10 and set(names) <= set(re.findall(r"\w+", (CLIENTS / "typed.py").read_text()))
-    page, = re.findall(r"```python\n(.*?)```", (BINDINGS / "python/README.md").read_text(), re.S)
+    blocks = re.findall(r"```python\n(.*?)```", (BINDINGS / "python/README.md").read_text(), re.S)
+    # That package may not be there.
+    page = "\n\n".join(it for it in blocks if "prometheus" not in it)
     assert "statistics" in page and "with_" in page and "bounds" in page
     (tmp_path / "page.py").write_text(page)
     # The oldest Python that the package is for.
@@ -84,30 +95,24 @@ def test_a_build_in_go_says_what_it_needs(tmp_path, variables):
     need("go")
     shutil.copytree(BINDINGS / "go", tmp_path / "go")
     said = refused(["go", "build", "."], tmp_path / "go", **variables)
-    assert re.findall(r"undefined: (\w+)", said) == ["zsched_needs_cgo_and_a_C_compiler_on_linux_amd64"]
+    assert re.findall(r"undefined: (\w+)", said) == ["zsched_needs_cgo_and_a_C_compiler"]
 
 
 def test_a_crate_for_another_machine_says_for_which_it_is(tmp_path):
     need("rustc")
     ran(["rustc", "-o", "build", BINDINGS / "rust/build.rs"], tmp_path, CARGO_MANIFEST_DIR=tmp_path)
-    (tmp_path / "libzsched.a").touch()
-    assert "link-lib=static=zsched" in ran(["./build"], tmp_path, TARGET="x86_64-unknown-linux-gnu")
-    for target in ["aarch64-apple-darwin", "aarch64-unknown-linux-gnu", "x86_64-pc-windows-msvc"]:
+    for machine, folder in [("x86_64", tmp_path), ("aarch64", tmp_path / "aarch64")]:
+        folder.mkdir(exist_ok=True)
+        assert "and there is no" in refused(["./build"], tmp_path, TARGET=f"{machine}-unknown-linux-musl")
+        (folder / "libzsched.a").touch()
+        for target in ["gnu", "musl"]:
+            said = ran(["./build"], tmp_path, TARGET=f"{machine}-unknown-linux-{target}")
+            assert "link-lib=static=zsched\n" in said and str(folder) == re.search("native=(.*?)/?\n", said)[1]
+            assert ("cargo:rustc-link-arg=-Wl,-z,stack-size=262144\n" in said) is (target == "musl")
+    for target in ["aarch64-apple-darwin", "riscv64gc-unknown-linux-gnu", "x86_64-pc-windows-msvc"]:
         said = refused(["./build"], tmp_path, TARGET=target)
-        assert f"zsched: libzsched.a is for Linux on x86-64, and it is not for {target}" in said
-    (tmp_path / "libzsched.a").unlink()
-    assert "and there is no" in refused(["./build"], tmp_path, TARGET="x86_64-unknown-linux-musl")
-
-
-def test_npm_installs_no_addon_for_another_machine(tmp_path):
-    need("npm")
-    shutil.copytree(BINDINGS / "node", tmp_path / "package")
-    (tmp_path / "mac.js").write_text("Object.defineProperty(process, 'platform', { value: 'darwin' });\n")
-    ran(["npm", "pack", "./package"], tmp_path, npm_config_cache="cache")
-    words = ["npm", "install", "--offline", "--no-audit", "--no-fund", next(tmp_path.glob("zsched-*.tgz"))]
-    said = refused(words, tmp_path, npm_config_cache="cache", NODE_OPTIONS=f"--require {tmp_path / 'mac.js'}")
-    assert "EBADPLATFORM" in said and "wanted" in said
-    assert '"cpu":"x64","libc":"glibc"' in said
+        assert f"zsched: libzsched.a is for Linux on x86-64 and arm64, and it is not for {target}" in said
+        assert "in ZSCHED_LIBRARY_DIR" not in said
 
 
 @pytest.mark.full
@@ -172,11 +177,11 @@ class Root:
         return [it for it in self.path.rglob("*zsched*") if "var/lib/dpkg" not in str(it)]
 
 
-def made_debs(folder, library):
+def made_debs(folder, library, target="x86_64"):
     folder.mkdir()
+    words = [TOP / "build/make-library-debs", "--out", folder, "--library", library, "--target", target]
     env = {**os.environ, "DEBEMAIL": "zsched@example.org"}
-    return [pathlib.Path(line) for line in
-            output_of([TOP / "build/make-library-debs", "--out", folder, "--library", library], env=env).split()]
+    return [pathlib.Path(line) for line in output_of(words, env=env).split()]
 
 
 def install(root):
@@ -212,14 +217,21 @@ def pip(root, package):
 
 def wheel(root):
     """The wheel, which has to keep auditwheel's rules for its tag: versions of the C library, and no other library."""
-    made, _ = packages(root, "python")
-    client, tag = pip(root, made), re.fullmatch(rf"zsched-{VERSION}-(py3-none-manylinux_2_(\d+)_x86_64).whl", made.name)
+    made, *_ = packages(root, "python")
+    client, tags = pip(root, made), ["manylinux_2_17_x86_64", "musllinux_1_1_x86_64"]
+    # An unreleased tree says so, so that pip takes it over a release.
+    symbols = re.findall(r" ZSCHED_(\S+)$", (TOP / "include/zsched.abi").read_text(), re.M)
+    assert OF_PYTHON in [VERSION, *(f"{it}.dev0" for it in symbols)]
+    assert made.name == f"zsched-{OF_PYTHON}-py3-none-{'.'.join(tags)}.whl"
+    metadata = next(root.folder.glob("site/zsched-*/METADATA")).read_text()
+    assert metadata.count("\nClassifier: ") >= 5 and "\nAuthor: " in metadata
     said = next(root.folder.glob("site/zsched-*/WHEEL")).read_text()
-    assert f"Root-Is-Purelib: false\nTag: {tag[1]}\n" in said
-    headers = output_of(["objdump", "-p", root.folder / "site/zsched/libzsched.so"])
-    assert re.findall(r"NEEDED +(\S+)", headers) == ["libc.so.6"]
+    assert f"Root-Is-Purelib: false\n{''.join(f'Tag: py3-none-{it}{chr(10)}' for it in tags)}" in said
+    library = root.folder / "site/zsched/libzsched.so"
+    headers = output_of(["objdump", "-p", library])
+    assert "NEEDED" not in headers and "GLIBC" not in headers
     assert re.search(r"STACK .*\n.* flags rw-$", headers, re.M)
-    assert all(int(minor) <= int(tag[2]) for minor in re.findall(r"GLIBC_2\.(\d+)", headers))
+    assert set(output_of(["nm", "-D", "--undefined-only", library]).split()) <= OF_ANY_C_LIBRARY
     return client
 
 
@@ -241,7 +253,7 @@ def npm(root):
     ran(["npm", "install", "--offline", "--no-audit", "--no-fund", *packages(root, "node")], root.folder,
         npm_config_cache="cache")
     said = refused(["node", "-e", "require('zsched')"], root.folder, ZSCHED_NODE="/nowhere")
-    assert "Error: zsched: /nowhere can't be loaded on linux on x64. The package has it for Linux on x64" in said
+    assert "Error: zsched: /nowhere can't be loaded on linux on x64. The package has it for Linux on x64 and" in said
     shutil.copy(CLIENTS / "client.js", root.folder)
     return Client(["node", root.folder / "client.js"], {})
 
@@ -269,7 +281,7 @@ def maven(root):
 
 INSTALLED = {
     "C": lambda root: languages.c(root.folder, root.debs(*DEBS[:2])), "Python": python, "wheel": wheel,
-    "sdist": lambda root: pip(root, packages(root, "python")[1]), "crate": crate, "npm": npm,
+    "sdist": lambda root: pip(root, packages(root, "python")[-1]), "crate": crate, "npm": npm,
     "Go": lambda root: languages.go(root.folder, languages.built_library(root.made)), "Maven": maven,
     "jar": lambda root: languages.java(root.folder, None, packages(root, "java")[0]),
     "C++": lambda root: languages.c(root.folder, root.place(install(root)), compiler=languages.CPP)}
@@ -288,17 +300,72 @@ def test_a_client_of_what_is_installed_retries_and_steps(name, root):
         assert root.purge() == []
 
 
-def test_debian_packages_are_the_same_bytes_again_and_lintian_has_nothing_to_say(tmp_path, library):
+def machine_code(path, folder):
+    """The bytes of each file with machine code in a package, by its name and the processor in its header."""
+    shutil.unpack_archive(path, folder, "zip" if path.suffix in (".whl", ".jar", ".zip") else "gztar")
+    found = {it.relative_to(folder): it.read_bytes() for it in folder.rglob("*") if it.is_file()}
+    found = {name: data for name, data in found.items() if data.startswith((b"\x7fELF", b"!<arch>\n"))}
+    return {("/".join(name.parts[-2:]), {62: "x86_64", 183: "aarch64"}[data[data.index(b"\x7fELF") + 18]]): data
+            for name, data in found.items()}
+
+
+INSIDE = f"zsched-{VERSION}/libzsched.a", "aarch64/libzsched.a"
+
+
+@pytest.mark.parametrize("language, place, x86_64, aarch64", [
+    ("python", 2, f"zsched-{OF_PYTHON}/libzsched.a", INSIDE[1]), ("rust", 0, *INSIDE),
+    ("node", 0, "package/zsched.node", "aarch64/zsched.node"),
+    ("go", 0, f"go@v{VERSION}/libzsched.a", f"go@v{VERSION}/libzsched_arm64.a"),
+    pytest.param("java", 0, "linux-x86-64/libzsched.so", "linux-aarch64/libzsched.so", marks=pytest.mark.full)])
+def test_a_package_has_the_tested_library_for_each_machine(language, place, x86_64, aarch64, root):
+    made = packages(root, language)
+    found = machine_code(made[place], root.folder / "inside")
+    assert found.keys() == {(x86_64, "x86_64"), (aarch64, "aarch64")}
+    for (name, _), data in found.items():
+        tested = root.made / ("aarch64" if name == aarch64 else "") / "libzsched.a"
+        assert data == tested.read_bytes() or not name.endswith(".a")
+    if language == "python":
+        for number, machine in enumerate(["x86_64", "aarch64"]):
+            for tag in made[number].stem.split("-")[-1].split("."):
+                words = ["--platform", tag, "--only-binary=:all:", "--target", tag]
+                ran([PYTHON, "-m", "pip", "install", "--no-index", "--no-deps", *words, made[number]], root.folder)
+            assert machine_code(made[number], root.folder / f"in-{machine}").keys() == {
+                ("zsched/libzsched.so", machine)}
+
+
+@pytest.mark.parametrize("target", ["x86_64", "aarch64"])
+def test_a_package_has_the_programs_that_are_tested(target, zsched, population, bounds, tmp_path):
+    programs = {"zsched": zsched, "zsched-population": population, "zsched-bounds": bounds}
+    words = ["--whole", "--target", target, "--out", tmp_path]
+    for name, path in programs.items():
+        words += [f"--{name.removeprefix('zsched-')}", path]
+    package = output_of([TOP / "build/make-deb", *words]).strip()
+    assert output_of(["dpkg-deb", "-f", package, "Architecture"]) == {"x86_64": "amd64\n", "aarch64": "arm64\n"}[target]
+    output_of(["dpkg-deb", "-x", package, tmp_path / "root"])
+    for name, path in programs.items():
+        tested = path.parent / ("aarch64" if target == "aarch64" else "") / path.name
+        assert (tmp_path / "root/usr/bin" / name).read_bytes() == tested.read_bytes()
+
+
+@pytest.mark.parametrize("target, architecture", [("x86_64", "amd64"), ("aarch64", "arm64")])
+def test_debian_packages_are_the_same_bytes_again_and_lintian_has_nothing_to_say(target, architecture, tmp_path,
+                                                                                 library):
     need("dpkg-deb", "lintian")
-    packages = made_debs(tmp_path / "first", library)
-    assert [it.name.partition("_")[0] for it in packages] == DEBS
-    assert [it.read_bytes() for it in made_debs(tmp_path / "again", library)] == [it.read_bytes() for it in packages]
+    packages, again = (made_debs(tmp_path / name, library, target) for name in ["first", "again"])
+    assert [it.name for it in packages] == [f"{name}_{OF_DEBIAN}_{architecture if name in DEBS[:2] else 'all'}.deb"
+                                            for name in DEBS]
+    assert [it.read_bytes() for it in again] == [it.read_bytes() for it in packages]
     assert output_of(["lintian", "--allow-root", "--fail-on", "error,warning", *packages]) == ""
     for package in packages:
         ran(["dpkg-deb", "-x", package, "root"], tmp_path)
         for line in output_of(["dpkg-deb", "--info", package, "md5sums"]).splitlines():
             total, name = line.split("  ")
             assert hashlib.md5((tmp_path / "root" / name).read_bytes()).hexdigest() == total, name
+    assert (tmp_path / f"root/usr/lib/{target}-linux-gnu/{SONAME}").exists()
+    assert (tmp_path / f"root/usr/lib/python3/dist-packages/zsched-{OF_PYTHON}.dist-info/METADATA").exists()
+    for wanted in re.findall(r" (\S+)$", output_of(["dpkg-deb", "--info", packages[0], "symbols"]), re.M)[1:]:
+        ran(["dpkg", "--compare-versions", OF_DEBIAN, "ge", wanted], tmp_path)
+    assert (tmp_path / "root/usr/include/zsched/retry.h").read_bytes() == (BINDINGS / "c/retry.h").read_bytes()
     needs = [output_of(["dpkg-deb", "-f", package, "Depends"]).strip() for package in packages]
     assert re.fullmatch(r"libc6 \(>= 2\.\d+\)", needs[0])
-    assert needs[1:] == [f"{DEBS[0]} (= {VERSION})", f"python3 (>= 3.10), {DEBS[0]} (>= {VERSION})"]
+    assert needs[1:] == [f"{DEBS[0]} (= {OF_DEBIAN})", f"python3 (>= 3.10), {DEBS[0]} (>= {OF_DEBIAN})"]

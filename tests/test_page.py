@@ -19,13 +19,15 @@ import reference
 from browser import framed, inside, opened
 from mistakes import MISTAKES, split
 from reports import jobs_of
-from support import TOP, examples, plan, plans_with_reports, rows
+from support import TOP, examples, output_of, plan, plans_with_reports, rows, run_here
 from zsched_tools import drawn, hints, schedule_rules
+from zsched_tools.outage import certificate
 from zsched_tools.outage import command as outage
 from zsched_tools.outage.scenario import read_scenario
 from zsched_tools.place import FaultAt
-from zsched_tools.policy import command
+from zsched_tools.policy import configs
 from zsched_tools.policy.reading import Wrong
+from zsched_tools.trying import command as trying
 
 PAGE = TOP / "docs" / "play.html"
 TEXT = PAGE.read_text()
@@ -95,11 +97,12 @@ def test_bounds_are_those_of_the_interval_run(page, texts, least, steps=120):
         durations, waits = (random.Random(text).choice(it) for it in (bounds.DURATIONS, bounds.WAITS))
         found = page("page.bounds", text, steps, durations, [None if it == bounds.MOST else it for it in waits])
         wanted = bounds.bounds(reference.read_schedule(text.encode()), durations, steps, waits)
-        keys = {"longest": "longest_wait", "total": "total_wait", "run": "longest_run", "seen": "steps_seen"}
+        keys = {"longest": "longest_wait", "every": "every", "total": "total_wait", "run": "longest_run",
+                "seen": "steps_seen"}
         assert {it: found[it] and int(found[it]) for it in [*keys, "least", "most"]} == {
             it: wanted[key] for it, key in keys.items()} | wanted["attempts"], (text, durations, waits)
         assert found["isEndless"] == wanted["never_gives_up"], text
-        assert found["isCut"] or wanted["attempts"]["most"] is not None or wanted["steps_seen"] < steps, text
+        assert found["isCut"] == wanted["is_cut"], text
     assert len(short) > least
 
 
@@ -145,7 +148,7 @@ def test_json_configs_are_read_as_zsched_policy_reads_them(page):
     paths = [it for it in TOP.glob("tests/cases/zsched-policy/*/*.json") if it.parent.name != "json_that_ends_early"]
     for path in paths:
         try:
-            lines = [command.line_of(it) for it in command.policies_of(str(path))]
+            lines = [configs.members(it, it.read()) for it in configs.policies_of(str(path))]
             wanted = [line for line in lines if line["format"] in ["grpc", "envoy", "temporal"]]
         except Wrong:
             wanted = {"fault": "not a policy"}
@@ -185,17 +188,72 @@ def test_in_an_outage_each_attempt_meets_the_service_as_it_is_at_its_begin(page)
     assert len(attempts) > 200 and sum(job.how == "failed" for job in jobs) > 1
 
 
-@pytest.mark.parametrize("policy", ["(exponential(100) && recurs(9)) jitter full", "spaced(rand(500, 900))"])
-def test_an_outage_with_a_capacity_is_that_of_zsched_outage(page, policy, zsched):
+@pytest.mark.parametrize("policy, cuts", [
+    ("(exponential(100) && recurs(9)) jitter full", 0), ("spaced(rand(500, 900))", 0),
+    ("(exponential(100) && recurs(20)) call 3500ms", 11), ("spaced(rand(50, 90)) attempt 30ms call 4s on 503", 20),
+    ("spaced(150) call 5s", 8)])
+def test_an_outage_with_a_capacity_is_that_of_zsched_outage(page, policy, cuts, zsched):
     fields = {"world": "outage", "a": policy, "until": "30s", "spread": "1s", "down": "0..2s", "capacity": "3",
               "seed": "5"}
-    text = page("page.plan", fields)["text"].encode()
     parts = {"horizon": 30000, "seed": 5, "clients": {"number": 20, "within": 1000}, "policies": {"a": policy},
              "windows": [{"from": 0, "to": 2000, "is": "down"}, {"from": 2000, "capacity": 3}]}
-    found = outage.simulate(read_scenario(json.dumps(parts).encode()), str(zsched), "a", 50, lambda share, words: None)
-    ours, theirs = ([[(it.begin, it.end, it.how, it.value) for it in job.attempts] for job in jobs_of(report)]
-                    for report in [reference.answer(text, MOST_ATTEMPTS)[1], found[2][0]])
-    assert ours == theirs and sum(map(len, ours)) > 100
+    scenario = read_scenario(json.dumps(parts).encode())
+    [report] = outage.simulate(scenario, str(zsched), "a", 50, lambda share, words: None)[2]
+    scenario = scenario.limited(scenario.policies["a"][0])
+    theirs = [certificate._cut(it, scenario.limit_of(number))
+              for number, it in enumerate(certificate.clients_in(report))]
+    rows = page("page.rows", fields)
+    ours = [[it["name"] for it in rows], [[int(it["begin"]) for it in row["attempts"]] for row in rows],
+            [[int(it["end"]) - int(it["begin"]) for it in row["attempts"]] for row in rows],
+            [(row["ending"]["how"], int(row["ending"]["at"])) for row in rows]]
+    assert ours[1:] == [[[*it.begins] for it in theirs], [[*it.lengths] for it in theirs],
+                        [(it.ending.how, it.ending.at) for it in theirs]]
+    assert sum(map(len, ours[1])) > 100 and sum(how == "cut" for how, _ in ours[3]) == cuts
+
+
+# Fields of the page, and the words of zsched-try for the same.
+LIMITS = [
+    ("exponential(100) call 3s attempt 200ms", {}, []),
+    ("(exponential(100) && recurs(9)) call 1500ms", {"script": "40 err 503"}, ["--fails", "40 err 503"]),
+    # An attempt ends at the limit, one would begin at it, one succeeds at it, and the schedule is done at it.
+    ("spaced(60) call 340ms", {"script": "40 err 503"}, ["--fails", "40 err 503"]),
+    ("spaced(60) call 300ms", {"script": "40 err 503"}, ["--fails", "40 err 503"]),
+    ("spaced(60) call 140ms", {"script": "40 err 503, 40 ok 200"},
+     ["--fails", "40 err 503", "--after", "1", "--then", "40 ok 200"]),
+    ("(spaced(60) && recurs(1)) call 140ms", {"script": "40 err 503"}, ["--fails", "40 err 503"]),
+    ("(spaced(60) && recurs(1)) call 139ms", {"script": "40 err 503"}, ["--fails", "40 err 503"]),
+    ("(spaced(100) && recurs(3)) call 20ms", {"script": "40 err 503"}, ["--fails", "40 err 503"]),
+    ("(spaced(100) && recurs(3)) jitter full call 1s attempt 50ms on 5xx", {"seed": "3"}, ["--seed", "3"]),
+    # The horizon is before the limit, is the limit, and is after it.
+    ("spaced(60) call 400ms", {"script": "40 err 503", "until": "399"}, ["--fails", "40 err 503", "--until", "399"]),
+    ("spaced(60) call 400ms", {"script": "40 err 503", "until": "400"}, ["--fails", "40 err 503", "--until", "400"]),
+    ("spaced(60) call 400ms", {"script": "40 err 503", "until": "401"}, ["--fails", "40 err 503", "--until", "401"]),
+    ("(spaced(60) && recurs(2)) attempt 70ms", {"attempt": "20ms..5s"}, ["--attempt", "20ms..5s"]),
+    ("(spaced(60) && recurs(2)) attempt 70ms call 1h", {"attempt": "20ms"}, ["--attempt", "20ms"]),
+    ("(spaced(60) && recurs(2)) on 404 call 1s", {"script": "40 err 503"}, ["--fails", "40 err 503"]),
+    ("recurs(1) call 1s", {"mode": "repeat", "script": "700 ok 1"}, ["--mode", "repeat", "--fails", "700 ok 1"])]
+
+
+@pytest.mark.parametrize("policy, fields, words", LIMITS, ids=[f"{it[0]} {it[1].get('until', '')}" for it in LIMITS])
+def test_limits_are_applied_as_zsched_try_applies_them(page, policy, fields, words, zsched, bounds, monkeypatch):
+    monkeypatch.setenv("ZSCHED", str(zsched))
+    monkeypatch.setenv("ZSCHED_BOUNDS", str(bounds))
+    fields = {"a": policy, "script": "err 503", "until": "1min", **fields}
+    status, output, errors = run_here(trying.main, ["zsched-try", policy, "--until", "1min", *words, "--json"])
+    wanted = json.loads(output)["policies"][0]
+    [found] = page("page.tried", fields)
+    assert (found["how"], found["attempts"], *map(int, [found["end_ms"], found["total"], found["longest"]])) == tuple(
+        wanted[it] for it in ["how", "attempts", "end_ms", "waited_ms", "longest_wait_ms"]), errors
+    line = run_here(trying.main, ["zsched-try", policy, "--until", "1min", *words])[1].splitlines()[1]
+    assert page("page.bounded", fields) == line.removeprefix("unproved: ")
+
+
+def test_an_attempt_that_is_longer_than_its_limit_is_rejected_as_by_zsched_try(page):
+    fields = {"a": "x: recurs(1) attempt 1s", "b": "y: recurs(2)", "script": "999 err 503, 1001 err 503"}
+    fault = {"fault": '"1001 err 503" takes a time that the limit of x, 1 s, excludes', "field": "script"}
+    assert page("page.tried", fields) == fault
+    fields["a"] = "x: recurs(1) attempt 1001ms"
+    assert [it["how"] for it in page("page.tried", fields)] == 2 * ["unfinished"]
 
 
 def test_the_same_seed_gives_the_same_plan(page):
@@ -216,6 +274,46 @@ def test_nothing_is_outside_of_a_picture(page, width, is_log):
         for it in root.iter():
             x, y, wide, tall = (float(it.get(key, 0)) for key in ["x", "y", "width", "height"])
             assert 0 <= x <= x + wide <= width + 0.1 and 0 <= y <= y + tall <= height, (path.name, it.attrib)
+
+
+# Attempts of 40 ms; a limit of the call cuts what begins later, and nothing is known if a part alone is drawn.
+@pytest.mark.parametrize("policy, wanted", [
+    ("(exponential(100) && recurs(3)) jitter full", [[0, 0], [40, 140], [80, 380], [120, 820]]),
+    ("spaced(30) jitter 50% call 200ms", [[0, 0], [55, 85], [110, 170]]),
+    ("(spaced(9) jitter full && fixed(25))", []), ("(exponential(100) && recurs(3))", [])])
+def test_the_picture_shows_where_each_attempt_may_begin(page, policy, wanted, zsched, bounds):
+    fields = {"a": policy, "script": "40 err 503"}
+    assert page("page.draws", fields) == [[list(map(str, it)) for it in wanted]]
+    words = [policy, "--fails", "40 err 503", "--until", "1s", "--zsched", zsched, "--bounds", bounds, "--html", "-"]
+    known = re.search('"draws": (.*?\\]\\])', run_here(trying.main, ["zsched-try", *words])[1])
+    assert (json.loads(known[1]) if known else []) == wanted
+
+
+@pytest.mark.parametrize("said, end", [
+    ("unproved: for every input: 2 attempts, always; no waits; ends within 1 min 1.5 s", ["61507", "unproved end"]),
+    ("for every input: 2 attempts, always; no waits; ends within 80 ms", ["87", "proved end"]),
+    ("for every input: never gives up; ends within 3 s by the call's limit", ["3007", "end by the call's limit"]),
+    ("for every input: 2 attempts, always; no waits; no proved end", None), (None, None)])
+def test_the_picture_shows_the_end_that_is_said(page, said, end):
+    report = "job A retry\nattempt 1 7..9 err 503\nstep 1 out 0 done\nend failed 503 at 9 polls 2\npolls 2\n"
+    [row] = page("(report, bounds) => asking.rowsOf(report, [{ call: null }], bounds)", report, [said])
+    assert row.get("end") == (end and dict(zip(["at", "said"], end)))
+
+
+@pytest.mark.full
+def test_a_run_as_a_page_is_whole_from_360_to_1600_pixels(zsched, bounds, tmp_path):
+    policies = {"draws": ["(exponential(100) && recurs(5)) jitter full", "cut: (spaced(500) && recurs(9)) call 2s"],
+                "layers": ["one: (spaced(100) && recurs(1))", "--over", "two: recurs(1)", "--over", "three: recurs(1)"]}
+    for name, words in policies.items():
+        words = ["--attempt", "300ms", "--html", tmp_path / f"{name}.html", *words, "--zsched", zsched]
+        assert run_here(trying.main, ["zsched-try", *words, "--bounds", bounds])[0] == 0
+    found = framed(tmp_path, [f"{name}.html" for name in policies], [360, 400, 1280, 1600], """page => {
+  const width = page.documentElement.clientWidth, all = style => [...page.querySelectorAll("main " + style)];
+  const beyond = [...page.querySelectorAll("body *")].filter(it => it.getBoundingClientRect().right > width + 1);
+  const places = [...new Set(all(".name").map(it => Number(it.getAttribute("x"))))];
+  return [page.documentElement.scrollWidth <= width, beyond.length, ...["rect.draws", "path.proof", "path.claim"].map(
+    it => all(it).length), places.map(it => it - places[0])]; }""")
+    assert found == [[True, 0, 6, 2, 2, [0]], [True, 0, 0, 2, 0, [0, 12, 24]]] * 4
 
 
 @pytest.mark.parametrize("name, begin, below", [("a-name-that-leaves-no-room", "a-name", 15), ("short", "short", 0)])
@@ -240,6 +338,8 @@ def test_the_page_loads_nothing_from_elsewhere_and_says_what_its_evaluator_is():
     assert re.findall(r"https?:|//[a-z]|@import|url\(", TEXT.replace("// ", "")) == []
     assert set(re.findall(r'\b(?:src|href)="([^"]*)"', TEXT)) == {"data:,"}
     assert re.search("Content-Security-Policy\"\\s+content=\"default-src 'none'; ", TEXT)
+    allowed = re.search("script-src ([^;]*);", TEXT)[1]
+    assert allowed.count("'sha256-") == 7 and allowed == hints.script_sources(TEXT), "build/page writes it"
     assert re.findall(r"fetch\((.*?),", TEXT) == ["`/report?${query}`"]
     assert "a separate implementation of zsched, unproved and in" in TEXT
 
@@ -252,13 +352,10 @@ def test_every_field_has_a_label_and_a_place_for_its_fault():
     assert set(re.findall(r'id="(\w+)-fault"', TEXT)) == (named | {"plan"}) - {"world"}
 
 
-def test_its_table_of_texts_is_that_of_the_tools():
-    assert hints.piece("texts") == hints.TEXTS, "build/page writes it"
-
-
-def test_other_pages_take_its_pieces():
-    assert "return { attemptTitle," in hints.piece("drawing")
-    assert "color-scheme: light dark" in hints.piece("drawing-style")
+@pytest.mark.parametrize("name", hints.PIECES)
+def test_its_pieces_are_those_of_the_tools(name):
+    found = re.search(rf'<(script|style)[^>]* id="{name}">\n(.*?)</\1>', TEXT, re.S)[2]
+    assert found == hints.PIECES[name] and len(found) > 900, "build/page writes it"
 
 
 def brightness(color):
@@ -271,7 +368,7 @@ def brightness(color):
 
 def test_letters_are_readable_on_each_ground_by_day_and_at_night():
     themes = [dict(re.findall(r"--(\w+): (#[0-9a-f]+);", block))
-              for block in re.findall(r":root \{(.*?)\}", hints.piece("drawing-style"), re.S)]
+              for block in re.findall(r":root \{(.*?)\}", hints.PIECES["drawing-style"], re.S)]
     for colors in themes:
         light = {name: brightness(color) + 0.05 for name, color in colors.items()}
         for name in ["ink", "soft", "green", "red", "ok", "err"]:
@@ -308,7 +405,22 @@ def test_a_browser_says_what_holds_for_every_draw_with_late_timers_and_waits_on_
     assert re.findall("unproved: for every [^<]*", document) == [
         "unproved: for every draw and input and attempts of at most 5 s that begin up to 50 ms late and Retry-After of "
         "up to 1.6 s: 6 attempts, always; waits of at most 1.65 s, 8.25 s in all; ends within 38.25 s"]
+    document = shown(a="(exponential(100) && recurs(5)) jitter +0..2s", attempt="5s", late="50ms")
+    assert re.findall("late: 6 attempts[^<]*", document) == [
+        "late: 6 attempts, always; waits of at most 3.65 s, 13.35 s in all; ends within 43.35 s"]
     assert '"soon" is not a duration' in inside(shown(a="recurs(3)", late="soon"), "late-fault")
+
+
+@pytest.mark.full
+def test_a_browser_shows_the_limits_of_a_policy():
+    """Attempts of 200 ms end at 200, 500, 900, 1500 and 2500 ms, and the sixth would begin at 4100."""
+    document = shown(a="exponential(100) call 3s attempt 200ms", script="err 503")
+    assert "A: is ended by the call's limit after 5 attempts, 3 s; longest wait 800 ms" in inside(document, "state")
+    assert "ends within 3 s by the call's limit" in document and "The plan and the report go on" in document
+    assert document.count("<title>the limit of the call</title>") == 1 and "by the call's limit</td>" in document
+    document = shown(a="exponential(100) call 3s", world="outage", down="0..1min", until="2min")
+    assert "A: 0 of 200 clients are served, 200 give up (200 by the call's limit); 1000 attempts" in document
+    assert "The report was checked: each of its 1000 attempts ends" in document
 
 
 @pytest.mark.full
@@ -351,3 +463,16 @@ def test_faults_of_both_policies_are_shown_with_their_carets_and_no_plan_is_save
     assert re.search(r'<textarea id="b"[^>]* aria-invalid="true"', document)
     found = re.findall(r'<strong class="">(.*?)<', shown(a="(delays(1s) && recur(3))", b="spaced(rand(9, 5))"))
     assert found == ["there is no recur", "the first number is greater than the second"]
+
+
+@pytest.mark.parametrize("is_report", [False, True], ids=["play.html", "zsched-report html"])
+def test_a_page_runs_no_script_but_its_own(is_report, tmp_path):
+    text = TEXT
+    if is_report:
+        (tmp_path / "r").write_text("job a retry\nattempt 1 0..5 ok 1\nend succeeded 1 at 5 polls 2\npolls 2\n")
+        text = output_of([TOP / "tools" / "zsched-report", "html", tmp_path / "r"])
+    text += '<script>document.title = "FORGED"</script><img src="data:," onerror="document.title = \'FORGED\'">'
+    any_script = re.sub("script-src [^;]*", "script-src 'unsafe-inline'", text, count=1)
+    for name, made, title in [("page", text, "zsched"), ("any", any_script, "FORGED")]:
+        (tmp_path / f"{name}.html").write_text(made)
+        assert title in re.search("<title>(.*?)</title>", opened(f"file://{tmp_path}/{name}.html"))[1]

@@ -39,6 +39,14 @@ def test_each_command_that_is_left_out_is_on_a_page():
     assert [it for it in LEFT_OUT if not any(command.startswith(it) for command, _ in COMMANDS)] == []
 
 
+def test_the_first_three_commands_say_which_policies_retry_longer_than_their_callers_wait():
+    (build, _), (tried, one), (check, all_of_them) = COMMANDS[:3]
+    assert [it.split()[0] for it in (build, tried, check)] == ["./run", "tools/zsched-try", "tools/zsched-policy"]
+    assert " --require-end 30s " in tried and "--require-end 30 s is not proved: a call of up to 33.1 s" in one
+    assert "mail.py:5:2: send: end 30 s is not proved" in all_of_them and 'end = "30s"' in (
+        TOP / check.split()[2] / ".zsched.toml").read_text()
+
+
 @pytest.mark.full
 def test_a_newcomer_gets_what_the_pages_show(tmp_path):
     for name in output_of(["git", "ls-files"], cwd=TOP).splitlines():

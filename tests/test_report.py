@@ -14,7 +14,7 @@ from generator import made_plan
 from report_samples import KNOWN, NEVER, REPORTS, RETRIED, RUNNING, WAITING, long_report, wide_report
 from reports import jobs_of
 from support import TOP, examples, rows, run
-from zsched_tools import load, progress
+from zsched_tools import command, load, progress
 from zsched_tools.command import Refused
 from zsched_tools.report import lines
 from zsched_tools.report.summary import Options, write_summary
@@ -41,13 +41,13 @@ def measured(tool, *words, out):
 
 
 def outcome(work):
-    """What a function writes, and the error if it rejects its text."""
-    written = []
+    """The lines that a function writes, and the error if it rejects its text."""
+    written, fault = [], None
     try:
         work(written.append)
     except Refused as refused:
-        return "".join(written), str(refused)
-    return "".join(written), None
+        fault = str(refused)
+    return "".join(f"{line}\n" for line in written), fault
 
 
 def json_lines(text):
@@ -120,7 +120,7 @@ def test_a_form_takes_little_memory_and_time(form, tmp_path):
 @pytest.mark.parametrize("is_terminal, first, shown", [
     (True, 0, r"\r\x1b\[Ktool: \d+ bytes(\r\x1b\[K.*)*\r\x1b\[K"), (False, 0, ""), (True, 60, "")])
 def test_a_long_command_shows_its_progress_on_a_terminal(is_terminal, first, shown, monkeypatch):
-    monkeypatch.setattr(progress.sys, "stderr", terminal := io.StringIO())
+    monkeypatch.setattr(progress.sys, "stderr", command.Border(terminal := io.StringIO()))
     monkeypatch.setattr(terminal, "isatty", lambda: is_terminal, raising=False)
     monkeypatch.setattr(progress, "FIRST", first)
     monkeypatch.setattr(progress, "EVERY", 0)

@@ -1,5 +1,7 @@
 """CONTRIBUTING's rules for code, over the product's crates: each violation is shown by file and line. Exceptions are
 the names of the request's surface, read from the tests that compile it, and those of the header for C."""
+import ast
+import json
 import re
 import subprocess
 import sys
@@ -54,19 +56,43 @@ def count_parameters(text):
     return sum(bool(it.strip()) for it in re.sub(r"\([^()]*\)", "", inside).split(","))
 
 
+# The name of an item that a crate defines, public or not, or of a public field.
+NAMED = re.compile(r'(?m)^ *(?:pub(?:\(crate\))? )?(?:(?:const |unsafe |extern "C" )*'
+                   r"(?:fn|struct|enum|trait|type|const|static) (\w+)|(?<=\) )(\w+): )")
+
+
+def taken(files, crate, other):
+    """The words of a crate that may be names of another one. A name of its own is, only if it is imported."""
+    text = "\n".join(text for path, text in files.items() if path.startswith(f"crates/{other}/"))
+    imported = words_of(" ".join(re.findall(rf"(?m)\buse (?:Rattle\.)?{crate}\b[^;\n]*", text)))
+    return words_of(text) - {it[1] or it[2] for it in NAMED.finditer(text)} | imported
+
+
 def unused(files):
     """Public items that no other crate uses, and that no used item of the same crate names."""
     for crate in PRODUCT:
-        used, items = set(SURFACE), []
-        for path, text in files.items():
-            if not path.startswith(f"crates/{crate}/"):
-                used |= words_of(text)
-            elif path.endswith(".rt") and not path.endswith("/laws.rt"):
-                items += [(place(path, text, it.start()), it[2] or it[4] or it[5], it[3] or it[0])
-                          for it in ITEM.finditer(text)]
+        used = SURFACE.union(*(taken(files, crate, other) for other in PRODUCT if other != crate))
+        items = [(place(path, text, it.start()), it[2] or it[4] or it[5], it[3] or it[0])
+                 for path, text in files.items() if path.startswith(f"crates/{crate}/") and path.endswith(".rt")
+                 and not path.endswith("/laws.rt") for it in ITEM.finditer(text)]
         for _ in items:
             used.update(*(words_of(text) for _, name, text in items if name in used))
         yield from (f"{where} {name}" for where, name, _ in items if name not in used)
+
+
+def unexported(files):
+    """Public types and functions that their crate doesn't export, and that no definition of another crate names."""
+    for crate in PRODUCT:
+        inside, lib = f"crates/{crate}/src/", files.get(f"crates/{crate}/src/lib.rt", "")
+        names = words_of(" ".join([*re.findall(r"(?m)^pub use [^;]*;", lib), *(
+            it for path, text in files.items() if not path.startswith(f"crates/{crate}/")
+            for it in re.findall(rf"(?m)^use Rattle\.{crate}\.specs\.declared\..*", text))]))
+        for path, text in files.items():
+            for it in ITEM.finditer(text) if path.startswith(inside) else []:
+                types_before = re.findall(r"(?m)^impl(?:<[^>]*>)? (?:[\w:<>', ]+ for )?(\w+)", text[:it.start()])
+                name = it[2] or it[4]
+                if name and (types_before[-1] if it[1] and types_before else name) not in names:
+                    yield f"{place(path, text, it.start())} {name}"
 
 
 def limits_again(files):
@@ -100,6 +126,7 @@ RULES = {
         lambda files: [it.at for it in functions(files) if it.is_public and not (
             "///" in it.comment and re.search("\n +(requires|ensures) ", it.text))], "/// Does it.\npub fn f() {}\n"),
     "what no other crate uses is pub(crate)": (unused, "pub enum Unheard {\n    Of,\n}\n"),
+    "what a crate doesn't export is pub(crate)": (unexported, "pub fn begin()\n{}\n"),
     "a clause has at most two lines": (
         lambda files: [it.at for it in functions(files) if it.name not in CALLED and LONG_CLAUSE.search(it.text)],
         "fn f()\n    ensures a { b\n        → c\n        → d }\n{}\n"),
@@ -124,6 +151,55 @@ def test_a_rule_holds_and_finds_what_breaks_it(rule):
     assert not (found := "\n".join(check(FILES))), found
 
 
+def long_lines(files):
+    """The files with a line of more than 100 columns, other than an import of one name."""
+    return [path for path, text in files.items() if re.search(r"(?m)^(?!use [^,\n]*$).{101,}", text)]
+
+
+def test_a_line_of_proofs_has_at_most_100_columns_unless_its_file_is_listed():
+    """A listed file that has no such line any more fails too, so the list only gets shorter."""
+    assert long_lines({"one": "use " + "-" * 97 + "\n", "two": "-" * 101}) == ["two"]
+    proofs = {str(path.relative_to(TOP)): path.read_text() for path in (TOP / "crates").glob("*/proofs/**/*.antt")}
+    listed = (TOP / "tests" / "long_lines.txt").read_text().splitlines()[1:]
+    assert sorted(long_lines(proofs)) == listed
+
+
+def test_a_name_of_the_using_crate_is_no_use():
+    files = {"crates/zs_drive/src/a.rt": "pub fn finish() {}\n", "crates/zs_run/src/b.rt": "fn finish() {\n}\n"}
+    assert list(unused(files)) == ["crates/zs_drive/src/a.rt:1 finish"]
+    for use in ["use zs_drive::finish;\n", "ghost use Rattle.zs_drive.specs.declared.a.{finish};\n"]:
+        assert not list(unused({**files, "crates/zs_run/src/c.rt": use}))
+
+
+MODULES = {".".join(path.relative_to(TOP / "tools").with_suffix("").parts).removesuffix(".__init__"): path.read_text()
+           for path in (TOP / "tools" / "zsched_tools").rglob("*.py")}
+
+
+def imported(text):
+    """The names that a module imports anywhere, also inside of functions, each with what may be a module in it."""
+    for node in ast.walk(ast.parse(text)):
+        if isinstance(node, ast.Import):
+            yield from (it.name for it in node.names)
+        elif isinstance(node, ast.ImportFrom):
+            yield from [node.module, *(f"{node.module}.{it.name}" for it in node.names)]
+
+
+def import_cycles(modules):
+    """Those modules of a table of texts that import themselves through others, and those between two of such."""
+    left = {name: set(imported(text)) & modules.keys() - {name} for name, text in modules.items()}
+    # Modules that import none that is left, or that none imports, are in no cycle.
+    while idle := {it for it in left if not left[it] & left.keys() or not any(it in found for found in left.values())}:
+        left = {name: it for name, it in left.items() if name not in idle}
+    return sorted(left)
+
+
+def test_no_module_of_the_tools_imports_itself_through_others():
+    assert import_cycles(MODULES) == [] and len(MODULES) > 60
+    planted = {"zsched_tools.words": "\ndef late():\n    from zsched_tools import place\n"}
+    with_cycle = import_cycles(MODULES | {name: MODULES[name] + text for name, text in planted.items()})
+    assert {"zsched_tools.words", "zsched_tools.place"} <= set(with_cycle)
+
+
 def lint(*words):
     return subprocess.run([sys.executable, "-m", "pycodestyle", f"--config={TOP}/setup.cfg", *words],
                           capture_output=True, text=True).stdout
@@ -137,3 +213,9 @@ def test_python_is_as_pycodestyle_wants_it(tmp_path):
              if it.is_file() and TOP / "tests/cases" not in it.parents]
     scripts = [it for it in files if it.suffix == ".py" or re.match(rb"#!.*python", it.read_bytes()[:40])]
     assert len(scripts) > 100 and lint(*scripts) == ""
+
+
+def test_a_table_of_rows_names_the_test_that_reads_it():
+    for path in (TOP / "tests").glob("*.jsonl"):
+        name, _, columns = json.loads(path.read_text(encoding="utf-8").partition("\n")[0]).partition(": ")
+        assert columns and f'rows("{path.name}")' in (TOP / "tests" / name).read_text(), path.name

@@ -59,16 +59,13 @@ static uint64_t attempt(void *data)
     return code == 200 ? 0 : (uint64_t)code;
 }
 
-/* Whether each call ends within 2 s for every input, if an attempt takes at most 200 ms. */
-static int ends_in_time(void)
+/* Whether each call ends within 2 s for every input, if an attempt takes at most 200 ms and timers are on time. */
+static int ends_in_time(const retry_policy *policy)
 {
-    zs_driver driver = ZS_DRIVER;
-    zs_run_bounds bounds = ZS_RUN_BOUNDS;
-    uint64_t at;
-    driver.has_most = 1;
-    driver.most_ms = 200;
-    return zs_bounds(POLICY, strlen(POLICY), &driver, 1000, &bounds, &at) == ZS_OK && bounds.has_longest_run &&
-           bounds.longest_run_ms <= 2000;
+    retry_guard guard = RETRY_GUARD(0);
+    zs_run_bounds bounds;
+    guard.trusting_longest_ms = 200;
+    return retry_bounds(policy, NULL, &guard, &bounds) == ZS_OK && retry_ends_within(&bounds, 2000);
 }
 
 int main(void)
@@ -80,13 +77,13 @@ int main(void)
     uint64_t at, begun;
     int listening = socket(AF_INET, SOCK_STREAM, 0);
     address.sin_addr.s_addr = htonl(INADDR_LOOPBACK);
-    if (retry_compile(&policy, POLICY, &at) || !ends_in_time() || listening < 0 ||
+    if (retry_compile(&policy, POLICY, &at) || !ends_in_time(&policy) || listening < 0 ||
         bind(listening, (struct sockaddr *)&address, sizeof address) || listen(listening, 8) ||
         getsockname(listening, (struct sockaddr *)&address, &length) ||
         pthread_create(&server, NULL, serve, &listening))
         return 2;
     begun = retry_passed(0);
-    if (retry(&policy, NULL, attempt, &call).end != RETRY_DONE || retry_passed(begun) < 140000000)
+    if (retry(&policy, NULL, attempt, &call).end != RETRY_SUCCEEDED || retry_passed(begun) < 140000000)
         return 1;
     pthread_join(server, NULL);
     printf("%s after %d attempts\n", call.text, call.attempts);

@@ -1,6 +1,6 @@
-//go:build !(cgo && linux && amd64)
+//go:build !cgo
 
-// Package zsched calls a library in C, which its module has for Linux on x86-64.
+// Package zsched calls a library in C, which its module has.
 package zsched
 
-var _ = zsched_needs_cgo_and_a_C_compiler_on_linux_amd64
+var _ = zsched_needs_cgo_and_a_C_compiler

@@ -1,10 +1,12 @@
 'use strict';
 // A real retry: a client calls a server on this machine until it is ready. It is busy at first.
 const http = require('node:http');
-const { Schedule, retry } = require('./zsched.js');
+const { Retry } = require('./zsched.js');
 
 const BUSY = 3;
-const POLICY = new Schedule('((exponential(20) || spaced(100)) && recurs(5)).whileInput(= 503)');
+const fetching = new Retry('((exponential(20) || spaced(100)) && recurs(5)).whileInput(= 503)', {
+  inputOf: (error) => error.code,
+});
 
 async function main() {
   let requests = 0;
@@ -14,13 +16,13 @@ async function main() {
   });
   await new Promise((resolve) => server.listen(0, '127.0.0.1', resolve));
   const begun = process.hrtime.bigint();
-  const text = await retry(POLICY, async () => {
+  const text = await fetching.call(async () => {
     const response = await fetch(`http://127.0.0.1:${server.address().port}/`);
     if (!response.ok) {
       throw Object.assign(new Error(`status ${response.status}`), { code: response.status });
     }
     return response.text();
-  }, { inputOf: (error) => error.code });
+  });
   console.log(`${text} after ${requests} attempts`);
   server.closeAllConnections();
   server.close();

@@ -1,45 +1,93 @@
 'use strict';
 // Retries by the proved schedules of zsched; zsched.d.ts says what each call does.
 //
-// A Schedule doesn't sleep; retry really sleeps. When attempts begin is proved, the sleeping is not.
-// Moments and inputs are BigInts or whole numbers, from 0 up to 2^64 - 1.
+// A Retry sleeps; a Schedule doesn't. When attempts begin is proved, the sleeping is not. Times are in
+// milliseconds, as numbers: Infinity above 2^53 - 1.
+const { setMaxListeners } = require('node:events');
 const { isGeneratorObject } = require('node:util').types;
 
-const calls = load(process.env.ZSCHED_NODE || './zsched.node');
+const calls = require('./calls.js').load(process.env.ZSCHED_NODE);
 
+const DEFAULT = '(exponential(100) && recurs(5))';
 const DONE = 1;
-const OTHER_STATE = 9;
+const [NOT_UTF8, KEEPS_LIST, OTHER_STATE, NO_TERM, BAD_NUMBER, BAD_WINDOW] = [4, 6, 9, 11, 13, 16];
+const OTHER_VERSION = 18;
 const TEXT_MOST = 80;
 // Where programs and states are written first: no other has more words.
-const [PROGRAM, STATE] = [new BigUint64Array(4004), new BigUint64Array(4004)];
+const [PROGRAM, STATE] = [new BigUint64Array(4004), new BigUint64Array(4005)];
 const WORD_MOST = 2n ** 64n - 1n;
 const DRAWS = 2 ** 32;
 const LONGEST = 2 ** 31 - 1;
 const HOUR = 3600000;
+// How often a sleep that returned early is repeated.
+const EARLY_MOST = 100;
+// The words of a schedule's text, in the order of their description.
+const WORDS = `forever recurs spaced fixed exponential fibonacci identity elapsed linear windowed andThenEither
+  whileInput whileOutput collectAll map resetWhen size merge as`.split(/\s+/);
+const OPTIONS = ['name', 'inputOf', 'shouldRetry', 'retryAfter', 'retryAfterMost', 'attemptMost', 'deadline', 'jitter',
+  'budget', 'onEvent', 'clock'];
+// The three forms of a date in HTTP.
+const DATES = [/^\w{3}, \d\d \w{3} \d{4} [\d:]{8} GMT$/, /^\w{6,9}, \d\d-\w{3}-\d\d [\d:]{8} GMT$/,
+  /^\w{3} \w{3} [\d ]\d [\d:]{8} \d{4}$/];
+// Mocks of a test may replace it.
+const turn = setImmediate;
 
-/** Returns the addon. If it can't be loaded, the error says for which machines it is built. */
-function load(place) {
-  try {
-    return require(place);
-  } catch (cause) {
-    const here = `${process.platform} on ${process.arch}`;
-    throw new Error(`zsched: ${place} can't be loaded on ${here}. The package has it for Linux on x64 with glibc; `
-      + 'elsewhere build it by bindings/node/build of the sources, and name it in ZSCHED_NODE', { cause });
+/** Returns how many letters have to be put in, taken out or changed between two words. */
+function editsOf(one, other) {
+  let row = Array.from({ length: other.length + 1 }, (_, place) => place);
+  for (const letter of one) {
+    const next = [row[0] + 1];
+    for (let j = 0; j < other.length; j += 1) {
+      next.push(Math.min(row[j] + (letter !== other[j]), row[j + 1] + 1, next[j] + 1));
+    }
+    row = next;
   }
+  return row[other.length];
+}
+
+/** Returns what to write in place of what begins at a byte of a text, or nothing. */
+function hintOf(text, at) {
+  const [before, rest] = [text.slice(0, at), text.slice(at)];
+  const operator = ['&&', '||', 'andThenEither'].find((it) => rest.startsWith(it));
+  if (operator && before.split('(').length === before.split(')').length) {
+    return `: "${operator}" stands in parentheses: (A ${operator} B)`;
+  }
+  if (!rest) {
+    return ': the text ends too early';
+  }
+  if (/\d$/.test(before) && /^\.\d/.test(rest)) {
+    return ': whole milliseconds, without a point';
+  }
+  const [word] = rest.match(/^[A-Za-z]*/);
+  const near = WORDS.map((it) => editsOf(word, it));
+  const fewest = Math.min(...near);
+  return word && fewest > 0 && fewest < 3 ? `: did you mean "${WORDS[near.indexOf(fewest)]}"?` : '';
+}
+
+/** Returns the library's words with a hint, and the lines that show a wrong text. */
+function linesOf(said, number, text, at) {
+  if (number !== NOT_UTF8 && number !== KEEPS_LIST && !(number >= NO_TERM && number <= BAD_WINDOW)) {
+    return said;
+  }
+  const from = Math.max(0, Math.min(at - TEXT_MOST / 2, text.length - TEXT_MOST));
+  const shown = text.slice(from, from + TEXT_MOST).replace(/[^ -~]/g, '?');
+  const mark = [NOT_UTF8, NO_TERM, BAD_NUMBER].includes(number) ? `\n${' '.repeat(at - from)}^` : '';
+  return `${said}${number === NO_TERM ? hintOf(text, at) : ''}\n${shown}${mark}`;
 }
 
 /**
- * The error of a call. The number and the place are those of zsched.h, and the message is the
- * library's.
+ * The error of a call. The number and the place are those of zsched.h, and the message has the library's
+ * words. For a wrong text a hint, the text and a mark below its byte follow.
  */
 class Fault extends Error {
-  constructor(number, at) {
+  constructor(number, at, text) {
     const out = Buffer.alloc(TEXT_MOST);
     const size = calls.strerror(BigInt(number), at, out);
-    super(out.toString('ascii', 0, size));
+    super(linesOf(out.toString('latin1', 0, size), number, text.toString('latin1'), Number(at)));
     this.name = 'Fault';
     this.number = number;
-    this.at = at;
+    this.at = Number(at);
+    this.text = text.toString();
   }
 }
 
@@ -90,29 +138,35 @@ class Budget {
   }
 }
 
-/** What a schedule does for every input: `most`, `total` and `longestRun` are null if there is no bound. */
+/** What a schedule does for every input. What has no bound is Infinity. */
 class Bounds {
-  constructor([seen, least, hasMost, most, longest, hasTotal, total, hasLongestRun, longestRun]) {
-    Object.assign(this, { seen, least, most: hasMost ? most : null, longest, total: hasTotal ? total : null });
-    this.longestRun = hasLongestRun ? longestRun : null;
+  constructor(found) {
+    const [seen, least, hasMost, most, longest, hasTotal, total, hasRun, run] = Array.from(found, numberOf);
+    Object.assign(this, { seen, least, most: hasMost ? most : Infinity, longest, total: hasTotal ? total : Infinity });
+    this.longestRun = hasRun ? run : Infinity;
   }
 
   /** Whether there are at most `most` attempts, and `total` ms of waits together. */
   within(most, total) {
-    return this.most !== null && this.most <= most && this.total !== null && this.total <= total;
+    return this.most <= most && this.total <= total;
   }
 
   /** Whether each call ends within `run` ms, attempts and waits together. */
   endsWithin(run) {
-    return this.longestRun !== null && this.longestRun <= run;
+    return this.longestRun < Infinity && this.longestRun <= run;
   }
 }
 
 /** Throws the Fault that a number represents, if it is one. */
-function throwFault(number, at = 0n) {
+function throwFault(number, at = 0n, text = '') {
   if (number > DONE) {
-    throw new Fault(number, at);
+    throw new Fault(number, at, text);
   }
+}
+
+/** Returns a number of the library: Infinity above 2^53 - 1. */
+function numberOf(word) {
+  return word > Number.MAX_SAFE_INTEGER ? Infinity : Number(word);
 }
 
 /** Throws a RangeError if a number isn't from 0 to another. */
@@ -131,10 +185,21 @@ function whole(name, number, most = WORD_MOST) {
   return BigInt(number);
 }
 
-/** Returns a time, rounded up to a whole number: 0 if it is negative, and at most 2^64 - 1. */
+/** Returns a time as whole milliseconds, rounded up: 0 if it is negative, and at most 2^64 - 1. */
 function time(name, number) {
   const up = typeof number === 'number' ? Math.ceil(number) : number;
   return up < 0 ? 0n : up > WORD_MOST ? WORD_MOST : whole(name, up);
+}
+
+/** Returns a time in nanoseconds: 0 if it is negative, and at most 2^64 - 1. */
+function nanoseconds(name, millis) {
+  if (typeof millis !== 'number' || Number.isNaN(millis)) {
+    throw new TypeError(`zsched: the ${name} is ${String(millis)}, which is no number`);
+  }
+  if (millis <= 0 || millis >= 2 ** 64 / 1e6) {
+    return millis <= 0 ? 0n : WORD_MOST;
+  }
+  return BigInt(Math.floor(millis)) * 1000000n + BigInt(Math.round((millis % 1) * 1e6));
 }
 
 /** Returns the whole percent of a share from 0 to 1. */
@@ -145,12 +210,13 @@ function percentOf(jitter) {
 
 /** Returns the Bounds of a schedule, of which at most the first `steps` attempts are examined. */
 function bounds(schedule, steps = 1000, { attempt = [], jitter = 0, asked = 0, late = 0 } = {}) {
-  const [least = 1, most = null] = attempt;
+  const [least = 1, most = Infinity] = attempt;
   const text = Buffer.from(schedule instanceof Schedule ? schedule.text : schedule);
-  const driver = [whole('least', least), most === null ? 0n : 1n, whole('most', most ?? 0)];
-  driver.push(100n - percentOf(jitter), 100n, whole('least wait', asked), whole('lateness', late));
+  const driver = [time('least', least < 1 ? least : Math.floor(least)), most === Infinity ? 0n : 1n];
+  driver.push(most === Infinity ? 0n : time('most', most), 100n - percentOf(jitter), 100n);
+  driver.push(time('least wait', asked), time('lateness', late));
   const [found, at] = [new BigUint64Array(9), new BigUint64Array(1)];
-  throwFault(calls.bounds(text, BigUint64Array.from(driver), whole('steps', steps), found, at), at[0]);
+  throwFault(calls.bounds(text, BigUint64Array.from(driver), whole('steps', steps), found, at), at[0], text);
   return new Bounds(found);
 }
 
@@ -167,13 +233,16 @@ class Schedule {
       this.#state = text.#state.slice();
     } else {
       const [data, sizes, at] = [Buffer.from(text), new BigUint64Array(2), new BigUint64Array(1)];
-      throwFault(calls.compile(data, PROGRAM, STATE, sizes, at), at[0]);
+      throwFault(calls.compile(data, PROGRAM, STATE, sizes, at), at[0], data);
       this.#text = data.toString();
       [this.#program, this.#first] = [PROGRAM.slice(0, Number(sizes[0])), STATE.slice(0, Number(sizes[1]))];
       this.#state = this.#first.slice();
     }
     if (state !== null) {
-      if (state.length !== this.#first.length || state[0] !== this.#first[0]) {
+      if (state[0] !== this.#first[0]) {
+        throwFault(OTHER_VERSION);
+      }
+      if (state.length !== this.#first.length || state[1] !== this.#first[1]) {
         throwFault(OTHER_STATE);
       }
       this.#state.set(state);
@@ -195,20 +264,21 @@ class Schedule {
   after(moment, input = 0n) {
     const next = new BigUint64Array(1);
     const [now, code] = [whole('moment', moment), whole('input', input)];
-    return this.#next(calls.step(this.#program, this.#state, now, code, next), next);
+    return this.#isNext(calls.step(this.#program, this.#state, now, code, next)) ? numberOf(next[0]) : null;
   }
 
   plan(began, ended, input = 0n, { least = 0, longest = HOUR, jitter = 0, draw } = {}) {
     const [percent, next] = [percentOf(jitter), new BigUint64Array(1)];
-    const turn = [time('begin', began), time('end', ended), whole('input', input), time('least wait', least)];
-    turn.push(time('longest wait', longest), percent);
-    turn.push(whole('draw', draw ?? (percent && Math.floor(DRAWS * Math.random())), DRAWS - 1));
-    return this.#next(calls.plan(this.#program, this.#state, BigUint64Array.from(turn), next), next);
+    const it = [nanoseconds('begin', began), nanoseconds('end', ended), whole('input', input)];
+    it.push(time('least wait', least), time('longest wait', longest), percent);
+    it.push(whole('draw', draw ?? (percent && Math.floor(DRAWS * Math.random())), DRAWS - 1));
+    return this.#isNext(calls.plan(this.#program, this.#state, BigUint64Array.from(it), next))
+      ? Number(next[0] / 1000000n) + Number(next[0] % 1000000n) / 1e6 : null;
   }
 
-  #next(number, next) {
+  #isNext(number) {
     throwFault(number);
-    return number === DONE ? null : next[0];
+    return number !== DONE;
   }
 
   output() {
@@ -222,35 +292,64 @@ class Schedule {
   }
 }
 
-/** Throws an Aborted if the signal is aborted. */
-function throwIfAborted(signal, lastError) {
-  if (signal?.aborted) {
-    throw new Aborted(signal.reason, lastError);
+/** Calls a function once when a signal is aborted. Many retries may listen to one signal. */
+function listen(signal, call) {
+  if (signal instanceof EventTarget) {
+    setMaxListeners(0, signal);
+  }
+  signal?.addEventListener('abort', call, { once: true });
+}
+
+/** The clock of a retry without one. A wait of 0 lets the event loop turn. */
+const SYSTEM = {
+  now: () => performance.now(),
+  sleep: (wait, signal) => new Promise((resolve) => {
+    if (wait <= 0 || signal?.aborted) {
+      setImmediate(resolve);
+      return;
+    }
+    const end = () => {
+      clearTimeout(timer);
+      signal?.removeEventListener('abort', end);
+      resolve();
+    };
+    const timer = setTimeout(end, Math.ceil(wait));
+    listen(signal, end);
+  }),
+};
+
+/** A clock for tests: nothing sleeps, and its time moves by each wait, so decisions are those of production. */
+class TestClock {
+  #now = 0;
+
+  now() {
+    return this.#now;
+  }
+
+  async sleep(wait) {
+    this.#now += wait;
+    await new Promise((resolve) => { turn(resolve); });
+  }
+
+  /** Moves the clock, as an attempt that takes some time does. */
+  advance(millis) {
+    this.#now += millis;
   }
 }
 
-/**
- * Sleeps until a moment of the clock in nanoseconds, and lets the event loop turn in any case. A
- * timer may end early, so the clock decides. Ends at once if the signal is aborted.
- */
-async function sleep(until, signal) {
-  let rest = until - process.hrtime.bigint();
+/** Sleeps until a moment of a clock, which decides: a timer may end early. Ends at once if the signal is aborted. */
+async function sleep(clock, until, signal, cause) {
+  let [now, early] = [clock.now(), 0];
   do {
-    await new Promise((resolve) => {
-      if (rest <= 0n || signal?.aborted) {
-        setImmediate(resolve);
-        return;
-      }
-      const end = () => {
-        clearTimeout(timer);
-        signal?.removeEventListener('abort', end);
-        resolve();
-      };
-      const timer = setTimeout(end, Math.min(Math.ceil(Number(rest) / 1e6), LONGEST));
-      signal?.addEventListener('abort', end, { once: true });
-    });
-    rest = until - process.hrtime.bigint();
-  } while (rest > 0n && !signal?.aborted);
+    const [begun, wait] = [now, Math.min(Math.max(until - now, 0), LONGEST)];
+    await clock.sleep(wait, signal);
+    now = clock.now();
+    early += now - begun < wait;
+    if (early > EARLY_MOST && until > now && !signal?.aborted) {
+      throw new Error(`zsched: a sleep ended early ${early} times, as if setTimeout were replaced: in tests set the `
+        + 'clock of the Retry to a new TestClock()', { cause });
+    }
+  } while (until > now && !signal?.aborted);
 }
 
 /** Returns the result of hooks. If they fail, the error is thrown, with what failed as its `notTriedAgain`. */
@@ -261,7 +360,7 @@ function resultFor(error, hooks) {
     if (error instanceof Error && Object.isExtensible(error)) {
       error.notTriedAgain = fault;
     }
-    throw error;
+    return null;
   }
 }
 
@@ -270,7 +369,7 @@ function limited(signal, most) {
   const control = new AbortController();
   const follow = () => control.abort(signal.reason);
   const timer = setTimeout(() => control.abort(new DOMException(`no end after ${most} ms`, 'TimeoutError')), most);
-  signal?.addEventListener('abort', follow, { once: true });
+  listen(signal, follow);
   return [control.signal, () => {
     clearTimeout(timer);
     signal?.removeEventListener('abort', follow);
@@ -296,62 +395,172 @@ async function outcome(attempt, number, given, most) {
 }
 
 /** Awaits a hook. If it fails, the attempt's error is the cause of that, unless it has another. */
-async function awaited(hook, failed) {
+async function awaited(hook, event) {
   try {
-    return await hook(failed);
+    return await hook(event);
   } catch (fault) {
-    if (fault instanceof Error && fault.cause === undefined && Object.isExtensible(fault)) {
-      fault.cause = failed.error;
+    if (fault instanceof Error && fault.cause === undefined && Object.isExtensible(fault) && event.error) {
+      fault.cause = event.error;
     }
     throw fault;
   }
 }
 
-async function retry(schedule, attempt, options = {}) {
-  const { inputOf = () => 0, shouldRetry = () => true, retryAfter = () => 0, onFailedAttempt = () => {} } = options;
-  const { signal, budget, attemptMost, jitter = 0, retryAfterMost: longest = HOUR } = options;
-  if (typeof attempt !== 'function' || !(schedule instanceof Schedule)) {
-    throw new TypeError('zsched: the attempt is no function, or the schedule is no Schedule');
+/** Throws an error if no retry can have these options. */
+function checkOptions(options) {
+  const { jitter, retryAfterMost, attemptMost = 1, deadline = 1 } = options;
+  const unknown = Object.keys(options).filter((it) => !OPTIONS.includes(it));
+  const hooks = ['inputOf', 'shouldRetry', 'retryAfter', 'onEvent'].filter(
+    (it) => options[it] !== undefined && typeof options[it] !== 'function');
+  if (unknown.length || hooks.length) {
+    throw new TypeError(`zsched: a Retry has no option ${unknown[0] ?? `${hooks[0]} that is no function`}: it has ${
+      OPTIONS.join(', ')}`);
   }
-  checkRange('jitter', jitter, 1);
-  checkRange('retryAfterMost', longest, Number.MAX_SAFE_INTEGER);
-  checkRange('attemptMost', attemptMost ?? 0, LONGEST);
-  const start = process.hrtime.bigint();
-  let began = 0n;
-  let run;
-  let error;
-  for (let number = 1; ; number += 1) {
-    throwIfAborted(signal, error);
-    const found = await outcome(attempt, number, signal, attemptMost);
-    if ('value' in found) {
-      budget?.add();
-      return found.value;
+  checkRange('jitter', jitter ?? 0, 1);
+  checkRange('retryAfterMost', retryAfterMost ?? 0, Number.MAX_SAFE_INTEGER);
+  for (const [name, limit] of [['attemptMost', attemptMost], ['deadline', deadline]]) {
+    if (!(limit > 0 && limit <= (name === 'deadline' ? Number.MAX_SAFE_INTEGER : LONGEST))) {
+      throw new RangeError(`zsched: the ${name} ${limit} is not above 0, or too long`);
     }
-    const ended = process.hrtime.bigint() - start;
+  }
+}
+
+/** A loop of attempts: a schedule and options. It has no state, so any number of calls may share it. */
+class Retry {
+  #schedule;
+  #options;
+
+  constructor(schedule = DEFAULT, options = {}) {
+    checkOptions(options);
+    const { jitter = schedule === DEFAULT ? 1 : 0, retryAfterMost = HOUR } = options;
+    this.#options = { ...options, jitter, retryAfterMost };
+    this.#schedule = schedule instanceof Schedule ? schedule : new Schedule(schedule);
+    this.clock = options.clock;
+  }
+
+  async call(attempt, { signal } = {}) {
+    if (typeof attempt !== 'function') {
+      throw new TypeError('zsched: the attempt is no function');
+    }
+    const [{ attemptMost, budget, onEvent }, clock] = [this.#options, this.clock ?? SYSTEM];
+    const run = { clock, signal, start: clock.now(), began: 0, number: 0, error: undefined, schedule: null };
+    if (signal?.aborted) {
+      await this.#end('cancelled', run, 0, new Aborted(signal.reason));
+    }
+    for (;;) {
+      run.number += 1;
+      const found = await outcome(attempt, run.number, signal, attemptMost);
+      if ('value' in found) {
+        budget?.add();
+        if (onEvent) {
+          await onEvent(this.#event('succeeded', { ...run, error: null }, clock.now() - run.start));
+        }
+        return found.value;
+      }
+      await this.#next(run, found.error);
+    }
+  }
+
+  /** Sleeps after an attempt that failed. Throws the error of the call if no other attempt follows. */
+  async #next(run, error) {
+    const { shouldRetry, onEvent, deadline = Infinity } = this.#options;
+    const { clock, signal, number, start } = run;
+    const elapsed = Math.max(0, clock.now() - start);
+    const last = run.error;
     // What ends by the abort of its signal is no failed attempt.
-    if (found.error === signal?.reason || found.error?.name === 'AbortError') {
-      throwIfAborted(signal, error ?? found.error);
+    const isAbort = signal?.aborted && (error === signal.reason || error?.name === 'AbortError');
+    run.error = isAbort ? last ?? error : error;
+    if (!isAbort && shouldRetry && !await awaited(shouldRetry, { error, number })) {
+      await this.#end('not retried', run, elapsed, error);
     }
-    error = found.error;
-    if (!await awaited(shouldRetry, { error, number })) {
-      throw error;
+    await this.#endIfAborted(run, elapsed);
+    const begin = await this.#plan(run, elapsed);
+    if (begin > deadline) {
+      await this.#end('deadline', run, elapsed, error);
     }
-    throwIfAborted(signal, error);
-    const [input, least] = resultFor(error, () => [
-      whole('input', inputOf(error)), time('least wait', retryAfter(error) ?? 0)]);
-    run ??= schedule.begin();
-    const begin = budget?.take() ?? true ? run.plan(began, ended, input, { least, longest, jitter }) : null;
-    await awaited(onFailedAttempt, { error, number, wait: begin === null ? null : Number(begin - ended) / 1e6 });
-    if (begin === null) {
-      throw error;
+    if (onEvent) {
+      await awaited(onEvent, this.#event(null, run, elapsed, Math.round(1e6 * Math.max(0, begin - elapsed)) / 1e6));
     }
-    await sleep(start + begin, signal);
-    began = process.hrtime.bigint() - start;
+    await sleep(clock, start + begin, signal, error);
+    await this.#endIfAborted(run, elapsed);
+    run.began = clock.now() - start;
   }
+
+  /** Returns when the next attempt begins, from the begin of the first. */
+  async #plan(run, elapsed) {
+    const { inputOf, retryAfter, budget, jitter, retryAfterMost: longest } = this.#options;
+    const { error } = run;
+    const found = resultFor(error, () => [
+      inputOf ? whole('input', inputOf(error)) : 0n, retryAfter ? time('least wait', retryAfter(error) ?? 0) : 0n]);
+    if (!found) {
+      await this.#end('not retried', run, elapsed, error);
+    }
+    if (!(budget?.take() ?? true)) {
+      await this.#end('budget', run, elapsed, error);
+    }
+    run.schedule ??= this.#schedule.begin();
+    const begin = run.schedule.plan(run.began, elapsed, found[0], { least: found[1], longest, jitter });
+    return begin ?? this.#end('gave up', run, elapsed, error);
+  }
+
+  #event(why, { number, error }, elapsed, wait = null) {
+    return { name: this.#options.name, number, error: error ?? null, elapsed, wait, why };
+  }
+
+  async #endIfAborted(run, elapsed) {
+    if (run.signal?.aborted) {
+      await this.#end('cancelled', run, elapsed, new Aborted(run.signal.reason, run.error));
+    }
+  }
+
+  /** Says why a call ends, and throws its error. */
+  async #end(why, run, elapsed, error) {
+    if (this.#options.onEvent) {
+      await awaited(this.#options.onEvent, this.#event(why, run, elapsed));
+    }
+    throw error;
+  }
+
+  /** Returns the Bounds of each call, whose timers end at most `late` ms late. */
+  bounds({ late, steps, trustingAttempts: [shortest = 1, trusted = Infinity] = [] } = {}) {
+    if (late === undefined) {
+      throw new TypeError('zsched: how many milliseconds late may timers be? bounds({ late: .. })');
+    }
+    checkRange('lateness', late, Infinity);
+    checkRange('least of an attempt', shortest, Infinity);
+    checkRange('most of an attempt', trusted, Infinity);
+    const { jitter, retryAfter, retryAfterMost, attemptMost = Infinity, deadline, budget } = this.#options;
+    const longest = Math.max(1, Math.min(trusted, attemptMost + late));
+    const found = bounds(this.#schedule, steps, {
+      attempt: [Math.max(1, shortest), longest], jitter, asked: retryAfter ? retryAfterMost : 0, late });
+    if (budget || deadline) {
+      found.least = 1;
+    }
+    if (deadline) {
+      found.longest = Math.min(found.longest, deadline + late);
+      found.total = Math.min(found.total, deadline + late);
+      found.longestRun = Math.min(found.longestRun, deadline + late + longest);
+    }
+    return found;
+  }
+}
+
+/**
+ * Returns how many milliseconds a header Retry-After asks to wait: seconds, or an HTTP date, which counts
+ * from now. Anything else is null.
+ */
+function retryAfterOf(header, now = Date.now()) {
+  const text = String(header ?? '').trim();
+  if (/^\d+$/.test(text)) {
+    return 1000 * Number(text);
+  }
+  const at = DATES.some((form) => form.test(text)) ? Date.parse(text.endsWith('GMT') ? text : `${text} GMT`) : NaN;
+  return Number.isNaN(at) ? null : Math.max(0, at - now);
 }
 
 function version() {
   return calls.version();
 }
 
-module.exports = { Aborted, Bounds, Budget, Fault, Schedule, bounds, retry, version };
+module.exports = {
+  Aborted, Bounds, Budget, DEFAULT, Fault, Retry, Schedule, TestClock, bounds, retryAfterOf, version };

@@ -27,12 +27,14 @@ class Server(http.server.BaseHTTPRequestHandler):
         """Prints nothing."""
 
 
-def print_wait(error, attempt, seconds):
+def print_wait(event):
     """Prints what went wrong, and how long the client waits."""
-    print(f"attempt {attempt}: {error.code}, the next one in {seconds * 1000:.0f} ms")
+    if event.wait is not None:
+        milliseconds = 1000 * event.wait.total_seconds()
+        print(f"attempt {event.attempt}: {event.error.code}, the next one in {milliseconds:.0f} ms")
 
 
-@retrying(SCHEDULE, on=urllib.error.HTTPError, input_of=lambda error: error.code, before_sleep=print_wait)
+@retrying(SCHEDULE, on=urllib.error.HTTPError, input_of=lambda error: error.code, on_event=print_wait)
 def fetch(url):
     """Returns the server's text."""
     with urllib.request.urlopen(url) as response:
@@ -49,7 +51,7 @@ def main():
     server.shutdown()
     assert waited >= 0.14, waited
     schedule = Schedule(SCHEDULE)
-    print(schedule.after(5, 503), schedule.after(30, 404))
+    print(schedule.after(0.005, 503), schedule.after(0.03, 404))
 
 
 if __name__ == "__main__":

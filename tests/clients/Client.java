@@ -3,12 +3,12 @@ import java.io.IOException;
 import java.io.InputStreamReader;
 import java.nio.charset.StandardCharsets;
 import java.time.Duration;
+import java.time.temporal.ChronoUnit;
 import java.util.ArrayList;
 import java.util.HexFormat;
 import java.util.List;
 import java.util.Optional;
 import java.util.OptionalLong;
-import java.util.concurrent.Callable;
 import java.util.concurrent.CompletableFuture;
 import java.util.concurrent.ExecutionException;
 import java.util.concurrent.Executors;
@@ -16,6 +16,8 @@ import java.util.concurrent.ScheduledExecutorService;
 import java.util.concurrent.TimeUnit;
 import java.util.concurrent.TimeoutException;
 import zsched.Budget;
+import zsched.Clock;
+import zsched.Guard;
 import zsched.Retry;
 import zsched.Schedule;
 
@@ -82,7 +84,7 @@ public final class Client {
                 throw new ArithmeticException("least");
             }
             return null;
-        }).onFailure(failure -> said.add(failure.delay() == null ? "end" : "sleep"));
+        }).onEvent(it -> said.add(it.why() == null ? "sleep" : it.why().toString().replace(' ', '_')));
         try {
             retry.call(() -> {
                 said.add("attempt");
@@ -104,7 +106,7 @@ public final class Client {
         int[] attempts = {0};
         Retry retry = Retry.of(text).inputOf(error -> Long.parseUnsignedLong(error.getMessage()))
             .on(error -> numbers.length == 2 || numbers[0] != numbers[4]);
-        Callable<String> attempt = () -> {
+        Retry.Attempt<String, IOException> attempt = () -> {
             said.add((System.nanoTime() - begun) / 1000);
             if (attempts[0]++ < numbers[1]) {
                 throw new IOException(Long.toUnsignedString(numbers[0]));
@@ -120,7 +122,7 @@ public final class Client {
     }
 
     /** The same asynchronously, on another thread after the first attempt. */
-    private static String later(Retry retry, Callable<String> attempt) throws Exception {
+    private static String later(Retry retry, Retry.Attempt<String, IOException> attempt) throws Exception {
         ScheduledExecutorService scheduler = Executors.newScheduledThreadPool(1);
         try {
             return retry.callAsync(() -> {
@@ -139,9 +141,9 @@ public final class Client {
 
     private static Retry optioned(Retry retry, long[] numbers, List<Object> said) {
         Retry most = numbers.length == 6 ? retry : retry.retryAfterMost(Duration.ofMillis(numbers[6]));
-        return most.budget(numbers[5] == 1 ? BUDGET : null).jitter(numbers[2] / 100.0).retryAfter(error -> Duration.ofMillis(numbers[3])).onFailure(failure -> {
-            if (failure.delay() != null) {
-                said.add(failure.number() + ":" + failure.delay().toMillis());
+        return most.budget(numbers[5] == 1 ? BUDGET : null).jitter(numbers[2] / 100.0).retryAfter(error -> Duration.ofMillis(numbers[3])).onEvent(it -> {
+            if (it.delay() != null) {
+                said.add(it.number() + ":" + it.delay().toMillis());
             }
         });
     }
@@ -199,15 +201,121 @@ public final class Client {
         return (System.nanoTime() - begun) / count;
     }
 
+    /** Retries with an option at the edge of what it may be, and says how. */
+    private static void edge(String text, String what, String number, List<Object> said) throws Exception {
+        Retry retry = Retry.of(text);
+        Duration time = Duration.ofMillis(Long.parseLong(number));
+        List<Long> moments = new ArrayList<>();
+        try {
+            retry = switch (what) {
+                case "limit" -> retry.attemptMost(time);
+                case "longest" -> retry.retryAfterMost(time).retryAfter(error -> Duration.ofMillis(1500));
+                default -> retry;
+            };
+        } catch (IllegalArgumentException refused) {
+            said.add("refused");
+            return;
+        }
+        if (what.equals("cancelled")) {
+            Thread.currentThread().interrupt();
+        }
+        String ended;
+        try {
+            ended = retry.call(() -> {
+                moments.add(System.nanoTime());
+                throw new IOException("503");
+            });
+        } catch (InterruptedException cancelled) {
+            ended = "cancelled";
+        } catch (IOException error) {
+            ended = error.getMessage();
+        }
+        said.addAll(List.of(moments.size(), ended));
+        if (moments.size() == 2) {
+            said.add(moments.get(1) - moments.get(0) < SECOND ? "short" : "long");
+        }
+    }
+
+    /** A clock that a call alone moves, and the last draw. */
+    private static final class Driven implements Clock {
+        private final long late;
+        private final boolean falls;
+        private int drawn;
+        private long now;
+
+        Driven(long seed, long late, boolean falls) {
+            this.late = late;
+            this.falls = falls;
+            drawn = (int) seed;
+        }
+
+        long draw(long most) {
+            drawn = drawn * 1103515245 + 12345;
+            return (drawn >>> 16) * most / 65535;
+        }
+
+        void move(long nanos) {
+            now += nanos;
+            now -= falls && draw(3) == 0 ? 1000 * draw(10_000_000) : 0;
+        }
+
+        @Override
+        public long nanos() { return now; }
+
+        @Override
+        public void sleep(Duration time) { move(time.toNanos() + 1000 * draw(1000 * late)); }
+    }
+
+    /** Makes a call over such a clock, and says what it did beside the bounds of its guard. */
+    private static void guarded(String text, long[] to, List<Object> said) throws InterruptedException, TimeoutException {
+        Driven clock = new Driven(to[0], to[4], to[7] == 1);
+        Retry retry = Retry.of(text).clock(clock).inputOf(error -> Long.parseLong(error.getMessage())).jitter(to[1] / 100.0)
+            .retryAfterMost(Duration.ofMillis(to[2])).retryAfter(to[2] == 0 ? null : error -> Duration.ofMillis(clock.draw(2 * to[2])));
+        if (to[3] > 0) {
+            retry = retry.deadline(Duration.ofMillis(to[3]));
+        }
+        long[] found = {0, 0, 0, 0};
+        try {
+            retry.call(() -> {
+                long wait = clock.now - found[3];
+                found[1] = Math.max(found[1], wait);
+                found[2] += wait;
+                clock.move(1000 * (1000 * to[5] + clock.draw(1000 * (to[6] - to[5]))));
+                found[3] = clock.now;
+                if (++found[0] < 200) {
+                    throw new IOException("" + (502 + clock.draw(2)));
+                }
+                return "done";
+            });
+        } catch (IOException last) {
+            // It gave up.
+        }
+        Guard guard = Guard.late(to[7] == 1 ? ChronoUnit.FOREVER.getDuration() : Duration.ofMillis(to[4]));
+        Schedule.Bounds bounds = retry.bounds(to[7] == 1 ? guard : guard.trustingAttempts(Duration.ofMillis(to[5]), Duration.ofMillis(to[6])));
+        said.addAll(List.of(found[0], found[1], found[2], found[3], bounds.least(), bounds.most().orElse(-1), millis(bounds.longest()),
+            bounds.total().map(Client::millis).orElse("-1"), bounds.longestRun().map(Client::millis).orElse("-1")));
+    }
+
     private static void bounds(String text, long[] numbers, List<Object> said) {
-        Schedule.Bounds found = switch (numbers.length) {
-            case 1 -> Schedule.bounds(text, numbers[0]);
-            case 3 -> Schedule.bounds(text, numbers[0], new Schedule.Driver(time(numbers[1], 1000), time(numbers[2], 1000)));
-            default -> Schedule.bounds(text, numbers[0], new Schedule.Driver(time(numbers[1], 1000), time(numbers[2], 1000),
-                numbers[3] / 100.0, time(numbers[4], 1000), time(numbers[5], 1000)));
-        };
-        said.addAll(List.of(found.seen(), found.least(), limit(found.most()), Long.toUnsignedString(found.longest()),
+        Retry retry = Retry.of(text);
+        Guard guard = Guard.late(numbers.length < 6 ? Duration.ZERO : time(numbers[5], 1000)).steps(numbers[0]);
+        if (numbers.length >= 3) {
+            guard = guard.trustingAttempts(time(numbers[1], 1000), time(numbers[2], 1000));
+        }
+        if (numbers.length >= 6) {
+            retry = retry.jitter(numbers[3] / 100.0).retryAfter(error -> null).retryAfterMost(time(numbers[4], 1000));
+        }
+        Schedule.Bounds found = retry.bounds(guard);
+        said.addAll(List.of(found.seen(), found.least(), limit(found.most()), millis(found.longest()),
             limit(found.total()), limit(found.longestRun())));
+    }
+
+    private static String millis(Duration time) {
+        return Long.toUnsignedString(time.getSeconds() * 1000 + time.getNano() / 1_000_000);
+    }
+
+    private static String limit(Optional<Duration> bound) {
+        return (bound.isPresent() ? 1 : 0) + " " + millis(bound.orElse(Duration.ZERO));
     }
 
     private static String limit(OptionalLong bound) {
@@ -230,9 +338,21 @@ public final class Client {
             order(text, words.get(0), said);
             return;
         }
+        if (command.equals("edge")) {
+            edge(text, words.get(0), words.size() > 1 ? words.get(1) : "0", said);
+            return;
+        }
         String[] lines = text.split("\n");
         long[] numbers = words.stream().mapToLong(Long::parseUnsignedLong).toArray();
         switch (command) {
+            case "said" -> {
+                try {
+                    new Schedule(text);
+                } catch (Schedule.Fault fault) {
+                    said.add("." + HexFormat.of().formatHex(fault.getMessage().getBytes(StandardCharsets.UTF_8)));
+                }
+            }
+            case "guarded" -> guarded(text, numbers, said);
             case "version" -> said.add(Schedule.version());
             case "moved" -> Schedule.resume(lines[1], new Schedule(lines[0]).state());
             case "retry", "later" -> retry(command, text, numbers, said);
@@ -255,7 +375,8 @@ public final class Client {
             try {
                 serve(words[0], text, List.of(words).subList(2, words.length), said);
             } catch (Schedule.Fault fault) {
-                said.add(fault.number + "," + Long.toUnsignedString(fault.at) + "," + fault.getMessage());
+                said.add(fault.number + "," + Long.toUnsignedString(fault.at) + ","
+                    + fault.getMessage().lines().findFirst().orElse("").split(": ")[0]);
             }
             System.out.println(String.join(" ", said.stream().map(Object::toString).toList()));
         }

@@ -1,8 +1,12 @@
+import java.io.IOException;
+import java.io.UncheckedIOException;
 import java.time.Duration;
+import java.time.Instant;
 import java.time.temporal.ChronoUnit;
 import java.util.ArrayList;
 import java.util.Iterator;
 import java.util.List;
+import java.util.Optional;
 import java.util.OptionalLong;
 import java.util.concurrent.Callable;
 import java.util.concurrent.CompletableFuture;
@@ -10,14 +14,21 @@ import java.util.concurrent.CompletionException;
 import java.util.concurrent.ExecutionException;
 import java.util.concurrent.Executors;
 import java.util.concurrent.FutureTask;
+import java.util.concurrent.RejectedExecutionException;
 import java.util.concurrent.ScheduledExecutorService;
 import java.util.concurrent.TimeUnit;
+import java.util.concurrent.TimeoutException;
 import java.util.concurrent.atomic.AtomicInteger;
+import java.util.function.Consumer;
+import java.util.function.Function;
 import java.util.function.Supplier;
 import java.util.function.UnaryOperator;
 import zsched.Budget;
+import zsched.Clock;
+import zsched.Guard;
 import zsched.Retry;
 import zsched.Schedule;
+import zsched.TestClock;
 
 /** Tests what only the binding for Java has. Exits with status 1 at the first difference. */
 public final class OnlyInJava {
@@ -33,26 +44,28 @@ public final class OnlyInJava {
         throw new Exception("busy", BUSY);
     }
 
-    /** An interrupt keeps the last error, takes no token and isn't retried; one in a sleep comes after the listener. */
+    /** An interrupt keeps the last error and takes no token; one before a call makes no attempt. */
     private static void interrupt() throws Exception {
         List<Object> told = new ArrayList<>();
         Budget budget = new Budget(10, 0.5);
-        Retry retry = Retry.of("spaced(100000)").budget(budget).onFailure(told::add);
-        for (int tokens : new int[] {10, 9}) {
+        Retry retry = Retry.of("spaced(100000)").budget(budget).onEvent(it -> told.add(it.number() + " " + it.why()));
+        Retry asked = retry.on(error -> Thread.interrupted());
+        Retry.Attempt<String, Exception> interrupted = () -> {
             Thread.currentThread().interrupt();
-            Exception error = thrown(() -> (tokens == 10 ? retry : retry.on(any -> Thread.interrupted()).onFailure(
-                failure -> Thread.currentThread().interrupt())).call(OnlyInJava::fail));
-            same(List.of(error.getClass(), error.getSuppressed()[0].getMessage(), Thread.interrupted()),
-                List.of(InterruptedException.class, "busy", false));
-            same(List.of(budget.tokens(), told.size()), List.of((double) tokens, 10 - tokens));
-        }
+            return fail();
+        };
+        Exception error = thrown(() -> retry.call(interrupted));
+        same(List.of(error.getClass(), error.getSuppressed()[0].getMessage(), Thread.interrupted(), budget.tokens()),
+            List.of(InterruptedException.class, "busy", false, 10.0));
+        error = thrown(() -> asked.onEvent(it -> Thread.currentThread().interrupt()).call(interrupted));
+        same(List.of(error.getClass(), error.getSuppressed()[0].getMessage(), Thread.interrupted(), budget.tokens()),
+            List.of(InterruptedException.class, "busy", true, 9.0));
         Thread.currentThread().interrupt();
-        same(List.of(thrown(() -> retry.on(error -> false).call(OnlyInJava::fail)).getMessage(), Thread.interrupted()), List.of("busy", true));
-        same(thrown(() -> Retry.of("forever").call(() -> {
-            told.add("attempt");
-            throw new InterruptedException();
-        })).getClass(), InterruptedException.class);
-        same(told.size(), 2);
+        same(thrown(() -> retry.call(OnlyInJava::fail)).getClass(), InterruptedException.class);
+        same(thrown(() -> retry.on(it -> false).call(interrupted)).getMessage(), "busy");
+        same(Thread.interrupted(), true);
+        same(thrown(() -> retry.call(() -> { throw new InterruptedException(); })).getClass(), InterruptedException.class);
+        same(told, List.of("1 cancelled", "1 null", "1 cancelled", "0 cancelled", "1 not retried", "1 cancelled"));
     }
 
     /** What an attempt, or a future's completion, throws. */
@@ -80,8 +93,8 @@ public final class OnlyInJava {
     private static void hooks() {
         ScheduledExecutorService scheduler = Executors.newScheduledThreadPool(1);
         List<UnaryOperator<Retry>> hooks = List.of(
-            retry -> retry.inputOf(error -> hook()), retry -> retry.on(error -> hook() == 0), retry -> retry.onFailure(failure -> hook()),
-            retry -> retry.retryAfter(error -> Duration.ofNanos(hook())), retry -> retry.onFailure(failure -> same(failure, "hook")),
+            retry -> retry.inputOf(error -> hook()), retry -> retry.on(error -> hook() == 0), retry -> retry.onEvent(it -> hook()),
+            retry -> retry.retryAfter(error -> Duration.ofNanos(hook())), retry -> retry.onEvent(it -> same(it.name(), "hook")),
             retry -> retry.inputOf(error -> -1), retry -> retry.inputOf(error -> OnlyInJava.<RuntimeException>sneak(new Exception("hook"))));
         for (UnaryOperator<Retry> hook : hooks) {
             Budget budget = new Budget(10, 0.5);
@@ -113,14 +126,32 @@ public final class OnlyInJava {
         }
         Supplier<CompletableFuture<String>> bad = () -> CompletableFuture.completedFuture("bad");
         List<Object> told = new ArrayList<>();
-        same(thrown(() -> Retry.of("forever").onSuccess(attempts -> hook()).callAsync(bad, scheduler).get(60, TimeUnit.SECONDS)).getMessage(), "hook");
-        same(Retry.of("recurs(1)").retryOnResult("bad"::equals).onFailure(told::add).callAsync(bad, scheduler).get(60, TimeUnit.SECONDS), "bad");
+        same(thrown(() -> Retry.of("forever").onEvent(it -> hook()).callAsync(bad, scheduler).get(60, TimeUnit.SECONDS)).getMessage(), "hook");
+        same(Retry.of("recurs(1)").retryOnResult("bad"::equals).onEvent(told::add).callAsync(bad, scheduler).get(60, TimeUnit.SECONDS), "bad");
         same(told.size(), 2);
-        same(thrown(() -> Retry.of("recurs(1)").callAsync(() -> { throw new IllegalStateException("late"); }, scheduler)
+        same(thrown(() -> Retry.of("recurs(1)").callAsync(() -> { throw new RuntimeException("late"); }, scheduler)
             .get(60, TimeUnit.SECONDS)).getMessage(), "late");
         scheduler.shutdown();
         same(thrown(() -> Retry.of("forever").callAsync(() -> CompletableFuture.failedFuture(BUSY), scheduler).get(60, TimeUnit.SECONDS))
             .getSuppressed()[0], BUSY);
+    }
+
+    /** A call declares the errors of its attempt, an interrupt and a time that is over, and no others. */
+    private static void declared() throws InterruptedException, TimeoutException {
+        same(Retry.of().call(() -> "done"), "done");
+        Retry retry = Retry.of("recurs(1)");
+        try {
+            retry.call(() -> { throw new IOException("503"); });
+            throw new AssertionError("no error");
+        } catch (IOException error) {
+            same(error.getMessage(), "503");
+        }
+        try {
+            retry.retryOnResult(result -> true).inputOf(error -> hook()).call(() -> "bad");
+            throw new AssertionError("no error");
+        } catch (Retry.BadResult error) {
+            same(List.of(error.result(), error.getSuppressed()[0].getMessage()), List.of("bad", "hook"));
+        }
     }
 
     /** Results that are retried, each listener, and a clock that only sleeps and attempts advance. */
@@ -129,9 +160,8 @@ public final class OnlyInJava {
         List<Object> told = new ArrayList<>();
         Retry retry = Retry.of("(exponential(10) && recurs(3)).whileInput(>= 500)").retryOnResult(result -> (int) result >= 400)
             .inputOf(error -> error instanceof Retry.BadResult bad ? (int) bad.result() : 501).on(error -> error == BUSY)
-            .onFailure(failure -> told.add(failure.number() + " " + failure.delay())).onFailure(failure -> told.add(failure.error() == BUSY))
-            .onSuccess(attempts -> told.add("ok " + attempts)).onSuccess(told::add)
-            .clock(() -> now[0], time -> now[0] += time.toNanos());
+            .onEvent(it -> told.add(it.number() + " " + it.delay())).onEvent(it -> told.add(it.error() == BUSY))
+            .clock(clock(now));
         for (List<Integer> wanted : List.of(List.of(503, 0, 200), List.of(503, 429), List.of(503, 503, 503, 503))) {
             Iterator<Integer> results = wanted.iterator();
             same(retry.call(() -> {
@@ -143,27 +173,190 @@ public final class OnlyInJava {
                 return result;
             }), wanted.get(wanted.size() - 1));
         }
-        same(told, List.of("1 PT0.01S", false, "2 PT0.02S", true, "ok 3", 3L, "1 PT0.01S", false, "2 null", false,
+        same(told, List.of("1 PT0.01S", false, "2 PT0.02S", true, "3 null", false, "1 PT0.01S", false, "2 null", false,
             "1 PT0.01S", false, "2 PT0.02S", false, "3 PT0.04S", false, "4 null", false));
         same(now[0], 7 + 9 * 5_000_000L + 110 * 1_000_000L);
     }
 
-    /** The bounds of a driver with the jitter hold of each run. */
+    /** A clock that only a test and sleeps move. */
+    private static Clock clock(long[] now) { return clock(now, time -> { }); }
+
+    private static Clock clock(long[] now, Consumer<Duration> told) {
+        return new Clock() {
+            @Override
+            public long nanos() { return now[0]; }
+
+            @Override
+            public void sleep(Duration time) {
+                told.accept(time);
+                now[0] += time.toNanos();
+            }
+        };
+    }
+
+    /** The bounds of a retry hold of each of its runs. */
     private static void early() {
         String text = "(spaced(1000) && elapsed).whileOutput(_2 < 20000)";
         Duration half = Duration.ofMillis(500);
         for (double jitter : new double[] {0, 0.5, 1}) {
-            Schedule.Bounds bounds = Schedule.bounds(text, 1000, new Schedule.Driver(half, half, jitter, Duration.ZERO, Duration.ZERO));
             long[] now = {7};
             int[] attempts = {0};
-            Retry retry = Retry.of(text).jitter(jitter).clock(() -> now[0], time -> now[0] += time.toNanos());
+            Retry retry = Retry.of(text).jitter(jitter).clock(clock(now));
+            Schedule.Bounds bounds = retry.bounds(Guard.late(Duration.ZERO).trustingAttempts(half, half));
             same(thrown(() -> retry.call(() -> {
                 attempts[0]++;
                 now[0] += half.toNanos();
                 return fail();
             })).getMessage(), "busy");
             same(jitter > 0 || attempts[0] == 15, true);
-            same(attempts[0] <= bounds.most().getAsLong() && now[0] - 7 <= bounds.longestRun().getAsLong() * 1_000_000, true);
+            same(attempts[0] <= bounds.most().getAsLong() && bounds.endsWithin(bounds.longestRun().get()), true);
+            same(now[0] - 7 <= bounds.longestRun().get().toNanos(), true);
+        }
+    }
+
+    private static final Duration NONE = Duration.ZERO;
+
+    /** Each option that is set on the retry alone changes its bounds. */
+    private static void guarded() {
+        Retry retry = Retry.of("(spaced(1000) && recurs(3))");
+        Guard guard = Guard.late(NONE);
+        Schedule.Bounds plain = retry.bounds(guard);
+        Duration second = Duration.ofSeconds(1), half = Duration.ofMillis(500), most = Duration.ofMillis(1500);
+        same(List.of(plain.most(), plain.longest(), plain.total(), plain.longestRun(), plain.endsWithin(Duration.ofDays(9))),
+            List.of(OptionalLong.of(4), second, Optional.of(second.multipliedBy(3)), Optional.empty(), false));
+        // Steps at 1, 1002, 2003 and 3004 ms; with jitter at 1, 502, .., 2005 and 2506 ms.
+        Retry elapsed = Retry.of("(spaced(1000) && elapsed).whileOutput(_2 < 2500)");
+        same(List.of(elapsed.bounds(guard).most(), elapsed.jitter(0.5).bounds(guard).most()),
+            List.of(OptionalLong.of(4), OptionalLong.of(6)));
+        Retry asked = retry.retryAfter(error -> null);
+        same(List.of(asked.bounds(guard).longest(), asked.retryAfterMost(most).bounds(guard).longest()),
+            List.of(Duration.ofHours(1), most));
+        same(retry.retryAfterMost(most).bounds(guard), plain);
+        Retry limited = retry.attemptMost(half);
+        Schedule.Bounds found = limited.bounds(guard), late = limited.bounds(Guard.late(Duration.ofMillis(10)));
+        same(List.of(found.endsWithin(Duration.ofMillis(5001)), found.endsWithin(Duration.ofMillis(4999)), late.longest(),
+            late.endsWithin(found.longestRun().get())), List.of(true, false, Duration.ofMillis(1010), false));
+        Schedule.Bounds first = retry.deadline(most).bounds(guard);
+        same(List.of(first.longestRun(), first.total(), first.longest(), limited.deadline(most).bounds(guard).longestRun()),
+            List.of(Optional.empty(), Optional.of(most), second, Optional.of(Duration.ofSeconds(2))));
+        // A budget may end a call after its first attempt, and changes no other bound.
+        same(List.of(plain.least(), first.least(), retry.budget(new Budget(10, 0.1)).bounds(guard)), List.of(4L, 1L,
+            new Schedule.Bounds(plain.seen(), 1, plain.most(), plain.longest(), plain.total(), plain.longestRun())));
+        Schedule.Bounds trusted = retry.bounds(guard.trustingAttempts(NONE, Duration.ofMillis(200)));
+        same(List.of(trusted.endsWithin(Duration.ofMillis(3801)), trusted.endsWithin(Duration.ofMillis(3799))), List.of(true, false));
+        same(retry.bounds(guard.steps(2)).most(), OptionalLong.empty());
+        same(Retry.of("forever").attemptMost(ChronoUnit.FOREVER.getDuration()).deadline(ChronoUnit.FOREVER.getDuration())
+            .bounds(Guard.late(ChronoUnit.FOREVER.getDuration())).longestRun(), Optional.empty());
+    }
+
+    /** The default policy has the bounds of the page, and jitter. */
+    private static void standard() {
+        Schedule.Bounds bounds = Retry.of().bounds(Guard.late(NONE).trustingAttempts(NONE, Duration.ofSeconds(5)));
+        same(List.of(bounds.most(), bounds.longest(), bounds.total(), bounds.endsWithin(Duration.ofMillis(33_101))),
+            List.of(OptionalLong.of(6), Duration.ofMillis(1600), Optional.of(Duration.ofMillis(3100)), true));
+        TestClock clock = new TestClock();
+        int[] attempts = {0};
+        same(thrown(() -> Retry.of().clock(clock).call(() -> {
+            attempts[0]++;
+            return fail();
+        })).getMessage(), "busy");
+        same(List.of(attempts[0], clock.nanos() < 3_100_000_000L, Retry.DEFAULT), List.of(6, true, "(exponential(100) && recurs(5))"));
+    }
+
+    /** What happens to a call, and why it ends. */
+    private static void events() throws Exception {
+        TestClock clock = new TestClock();
+        List<String> told = new ArrayList<>();
+        Retry retry = Retry.of("(spaced(20) && recurs(1))").clock(clock).name("fetch").onEvent(it -> told.add(it.name() + " " + it.number()
+            + " " + (it.error() == null ? null : it.error().getMessage()) + " " + it.elapsed().toMillis() + " "
+            + (it.delay() == null ? null : it.delay().toMillis()) + " " + it.why()));
+        Function<Integer, Retry.Attempt<String, Exception>> failing = times -> {
+            int[] attempts = {0};
+            return () -> {
+                clock.advance(Duration.ofMillis(5));
+                return attempts[0]++ < times ? fail() : "done";
+            };
+        };
+        retry.call(failing.apply(1));
+        thrown(() -> retry.call(failing.apply(2)));
+        thrown(() -> retry.on(error -> false).call(failing.apply(1)));
+        thrown(() -> retry.budget(new Budget(1, 0)).call(failing.apply(1)));
+        thrown(() -> retry.deadline(Duration.ofMillis(24)).call(failing.apply(1)));
+        retry.deadline(Duration.ofMillis(25)).call(failing.apply(1));
+        retry.callAsync(CompletableFuture::new, Runnable::run).cancel(true);
+        same(told, List.of("fetch 1 busy 5 20 null", "fetch 2 null 30 null succeeded", "fetch 1 busy 5 20 null",
+            "fetch 2 busy 30 null gave up", "fetch 1 busy 5 null not retried", "fetch 1 busy 5 null budget",
+            "fetch 1 busy 5 null deadline", "fetch 1 busy 5 20 null", "fetch 2 null 30 null succeeded", "fetch 1 null 0 null cancelled"));
+    }
+
+    /** Sleeps that end early are repeated, a hundred times at most, and waits by a clock for tests take no time. */
+    private static void sleeps() throws Exception {
+        for (double pace : new double[] {1, 0.5, 0}) {
+            long[] now = {0}, sleeps = {0}, begun = {0};
+            Clock clock = new Clock() {
+                @Override
+                public long nanos() { return now[0]; }
+
+                @Override
+                public void sleep(Duration time) {
+                    sleeps[0]++;
+                    now[0] += Math.ceil(time.toNanos() * pace);
+                }
+            };
+            Exception error = thrown(() -> Retry.of("(spaced(1000) && recurs(1))").clock(clock).call(() -> {
+                begun[0] = now[0];
+                return fail();
+            }));
+            same(error.getMessage(), pace > 0 ? "busy" : "zsched: 100 sleeps ended early: in tests set Retry.clock, to a TestClock say");
+            same(List.of(pace > 0 ? begun[0] >= 1_001_000_000 : sleeps[0] == 101, sleeps[0] <= 101), List.of(true, true));
+        }
+        TestClock clock = new TestClock();
+        Retry retry = Retry.of("(spaced(3600000) && recurs(2))").clock(clock);
+        same(thrown(() -> retry.callAsync(() -> CompletableFuture.failedFuture(BUSY), Runnable::run).get(60, TimeUnit.SECONDS)), BUSY);
+        same(clock.nanos(), 2 * 3_600_001_000_000L);
+        clock.advance(ChronoUnit.FOREVER.getDuration());
+        same(clock.nanos(), Long.MAX_VALUE);
+    }
+
+    /** A header asks for seconds or a date. */
+    private static void headers() {
+        Instant now = Instant.ofEpochSecond(784_111_777).minusMillis(7500);
+        same(Retry.retryAfterOf(" 120 ", now), Duration.ofSeconds(120));
+        same(Retry.retryAfterOf("Sun, 06 Nov 1994 08:49:37 GMT", now), Duration.ofMillis(7500));
+        same(Retry.retryAfterOf("Sun, 06 Nov 1994 08:49:00 GMT", now), NONE);
+        for (String other : new String[] {null, "", "-1", "1.5", "soon", "99999999999999999999", "Sun, 06 Now 1994 08:49:37 GMT"}) {
+            same(Optional.ofNullable(Retry.retryAfterOf(other, now)), Optional.empty());
+        }
+    }
+
+    /** Faults of the program aren't retried by default, and an executor that is shut down in a wait ends a call. */
+    private static void defaults() throws Exception {
+        for (Exception error : List.of(new NullPointerException("odd"), new IllegalStateException("odd"), new IndexOutOfBoundsException("odd"),
+                new RuntimeException("busy"), new UncheckedIOException("busy", new IOException()), new IOException("busy"))) {
+            int[] attempts = {0};
+            same(thrown(() -> Retry.of("recurs(1)").call(() -> {
+                attempts[0]++;
+                throw error;
+            })), error);
+            same(attempts[0], error.getMessage().equals("odd") ? 1 : 2);
+        }
+        ScheduledExecutorService scheduler = Executors.newScheduledThreadPool(1);
+        CompletableFuture<String> waiting = Retry.of("spaced(100)").callAsync(() -> CompletableFuture.failedFuture(BUSY), scheduler);
+        scheduler.shutdownNow();
+        Exception ended = thrown(() -> waiting.get(60, TimeUnit.SECONDS));
+        same(List.of(ended.getClass(), ended.getSuppressed()[0]), List.of(RejectedExecutionException.class, BUSY));
+    }
+
+    /** Without a library each call says so. */
+    private static void missing() {
+        for (Callable<?> call : List.<Callable<?>>of(Schedule::version, () -> new Schedule("forever"), () -> Schedule.bounds("forever"), Retry::of)) {
+            try {
+                throw new AssertionError(call.call());
+            } catch (UnsatisfiedLinkError error) {
+                same(error.getMessage().contains("zsched: the jar has the library for Linux on x86-64 and arm64"), true);
+            } catch (Exception other) {
+                throw new AssertionError(other);
+            }
         }
     }
 
@@ -173,11 +366,8 @@ public final class OnlyInJava {
             long[] now = {0};
             int[] attempts = {0};
             List<Object> told = new ArrayList<>();
-            Retry retry = Retry.of("(spaced(30) && recurs(5))")
-                .onFailure(failure -> told.add(failure.delay() == null ? 0L : failure.delay().toMillis())).clock(() -> now[0], time -> {
-                    same(told.get(told.size() - 1), time.toMillis());
-                    now[0] += time.toNanos();
-                });
+            Retry retry = Retry.of("(spaced(30) && recurs(5))").onEvent(it -> told.add(it.delay() == null ? 0L : it.delay().toMillis()))
+                .clock(clock(now, time -> same(told.get(told.size() - 1), time.toMillis())));
             same(thrown(() -> retry.call(() -> {
                 now[0] -= ++attempts[0] == 2 ? fall * 1_000_000 : 0;
                 return fail();
@@ -186,22 +376,29 @@ public final class OnlyInJava {
         }
     }
 
+    /** A clock that stands still, whose sleep has to be so long, and is interrupted. */
+    private static Clock asleep(String wanted) {
+        return new Clock() {
+            @Override
+            public long nanos() { return 0; }
+
+            @Override
+            public void sleep(Duration time) throws InterruptedException {
+                same(time.toString(), wanted);
+                throw new InterruptedException("slept");
+            }
+        };
+    }
+
     /** Waits of centuries overflow nowhere. */
     private static void centuries() {
-        Retry retry = Retry.of("spaced(18446744073708)").attemptMost(ChronoUnit.FOREVER.getDuration()).clock(() -> 0, time -> {
-            same(time.toString(), "PT5124095H34M33.709S");
-            throw new InterruptedException("slept");
-        });
-        same(thrown(() -> retry.call(OnlyInJava::fail)).getMessage(), "slept");
-        Retry asked = Retry.of("recurs(1)").retryAfter(error -> ChronoUnit.FOREVER.getDuration()).clock(() -> 0, time -> {
-            same(time.toString(), "PT30M");
-            throw new InterruptedException("slept");
-        });
+        Retry retry = Retry.of("spaced(18446744073708)").attemptMost(ChronoUnit.FOREVER.getDuration());
+        same(thrown(() -> retry.clock(asleep("PT2562047H47M16.854775807S")).call(OnlyInJava::fail)).getMessage(), "slept");
+        Retry asked = Retry.of("recurs(1)").retryAfter(error -> ChronoUnit.FOREVER.getDuration()).clock(asleep("PT30M"));
         same(thrown(() -> asked.retryAfterMost(Duration.ofMinutes(30)).jitter(1).call(OnlyInJava::fail)).getMessage(), "slept");
-        ScheduledExecutorService scheduler = Executors.newScheduledThreadPool(1);
-        CompletableFuture<String> waiting = retry.callAsync(() -> CompletableFuture.failedFuture(BUSY), scheduler);
+        CompletableFuture<String> waiting = Retry.of("spaced(18446744000000)").attemptMost(ChronoUnit.FOREVER.getDuration())
+            .callAsync(() -> CompletableFuture.failedFuture(BUSY), Runnable::run);
         same(List.of(waiting.isDone(), waiting.cancel(true)), List.of(false, true));
-        scheduler.shutdownNow();
     }
 
     /** Wrong texts and numbers are errors, and an option changes no other retry. */
@@ -215,15 +412,19 @@ public final class OnlyInJava {
             same(thrown(() -> Retry.of("forever").jitter(wrong)).getClass(), IllegalArgumentException.class);
             same(thrown(() -> new Schedule("forever").plan(Duration.ZERO, Duration.ZERO, 0, Duration.ZERO, Duration.ZERO, wrong)).getClass(),
                 IllegalArgumentException.class);
-            same(thrown(() -> new Schedule.Driver(Duration.ZERO, null, wrong, Duration.ZERO, Duration.ZERO)).getClass(),
-                IllegalArgumentException.class);
         }
         Duration below = Duration.ofNanos(-1);
-        same(thrown(() -> new Schedule.Driver(below, below, 0, below, Duration.ZERO)).getMessage(), "zsched: PT-0.000000001S or PT0S is below 0");
-        same(((Schedule.Fault) thrown(() -> Schedule.bounds("forever", 9, new Schedule.Driver(below, null)))).number, 10);
+        same(thrown(() -> Guard.late(below)).getMessage(), "zsched: lateness of PT-0.000000001S isn't 0 or above");
+        Retry forever = Retry.of("forever");
+        for (Callable<?> wrong : List.<Callable<?>>of(() -> forever.attemptMost(NONE), () -> forever.attemptMost(below),
+                () -> forever.retryAfterMost(below), () -> forever.deadline(below), () -> Guard.late(NONE).trustingAttempts(below, NONE))) {
+            same(thrown(wrong).getClass(), IllegalArgumentException.class);
+        }
+        Guard longestFirst = Guard.late(NONE).trustingAttempts(Duration.ofMillis(6), Duration.ofMillis(5));
+        same(((Schedule.Fault) thrown(() -> forever.bounds(longestFirst))).number, 10);
         same(new Budget(0, 0).take(), false);
         Retry retry = Retry.of("recurs(1)");
-        retry.on(error -> false).retryOnResult(result -> true).onFailure(failure -> hook()).onSuccess(attempts -> hook());
+        retry.on(error -> false).retryOnResult(result -> true).onEvent(it -> hook());
         int[] attempts = {0};
         same(retry.call(() -> attempts[0]++ == 0 ? fail() : "done"), "done");
     }
@@ -281,14 +482,14 @@ public final class OnlyInJava {
         });
         Budget budget = new Budget(9, 2);
         Retry retry = Retry.of("(spaced(20) && recurs(2))").on(error -> error == BUSY).budget(budget)
-            .onFailure(failure -> failures.add(failure.number() + " " + (failure.delay() == null)));
+            .onEvent(it -> failures.add(it.number() + " " + it.why()));
         long begun = System.nanoTime();
         try {
             retry.callAsync(attempt, scheduler).get();
         } catch (ExecutionException ended) {
             same(ended.getCause(), BUSY);
         }
-        same(failures, List.of("1 false", "2 false", "3 true"));
+        same(failures, List.of("1 null", "2 null", "3 gave up"));
         same(System.nanoTime() - begun >= 40_000_000, true);
         same(budget.tokens(), 6.0);
         same(retry.callAsync(() -> CompletableFuture.completedFuture("done"), scheduler).get(), "done");
@@ -297,7 +498,7 @@ public final class OnlyInJava {
         retry.callAsync(() -> CompletableFuture.failedFuture(BUSY), scheduler).cancel(false);
         scheduler.shutdown();
         same(scheduler.awaitTermination(60, TimeUnit.SECONDS), true);
-        same(failures, List.of("1 false"));
+        same(failures, List.of("1 null", "1 cancelled"));
     }
 
     /** A cancelled future ends its wait and its attempt, and takes no token. */
@@ -321,23 +522,14 @@ public final class OnlyInJava {
         same(new Schedule("spaced(18446744073709551614)").after(1, 0), OptionalLong.of(-1));
         same(new Schedule("spaced(18446744073709)").plan(Duration.ZERO, Duration.ZERO, 0).isEmpty(), true);
         // 6 attempts, and 3100 milliseconds
-        Schedule.Bounds bounds = Schedule.bounds("(exponential(100) && recurs(5))", 1000);
+        Schedule.Bounds bounds = Schedule.bounds("(exponential(100) && recurs(5))");
         same(List.of(bounds.within(6, Duration.ofMillis(3100)), bounds.within(5, Duration.ofMillis(3100)),
-            bounds.within(6, Duration.ofMillis(3099)), Schedule.bounds("spaced(1)", 9).within(-1, Duration.ofDays(1))),
+            bounds.within(6, Duration.ofMillis(3099)), Schedule.bounds("spaced(1)").within(-1, Duration.ofDays(1))),
             List.of(true, false, false, false));
-        Schedule.Bounds run = Schedule.bounds("recurs(100)", 1000, new Schedule.Driver(Duration.ofMillis(1), Duration.ofNanos(1_999_999)));
-        same(List.of(run.endsWithin(Duration.ofMillis(202)), run.endsWithin(Duration.ofMillis(201)), run.endsWithin(Duration.ofMillis(-1)),
-            run.within(101, Duration.ZERO), run.within(101, Duration.ofMillis(-1))), List.of(true, false, false, true, false));
-        Duration minute = Duration.ofMinutes(1), forever = ChronoUnit.FOREVER.getDuration();
-        same(List.of(driven(0, Duration.ZERO, Duration.ZERO), driven(1, minute, Duration.ZERO), driven(0, Duration.ZERO, forever)), List.of(
-            List.of(OptionalLong.of(2), 10L, OptionalLong.of(14)), List.of(OptionalLong.of(2), 60_000L, OptionalLong.of(60_004)),
-            List.of(OptionalLong.of(2), -1L, OptionalLong.empty())));
-    }
-
-    private static List<Object> driven(double jitter, Duration asked, Duration late) {
-        Schedule.Driver driver = new Schedule.Driver(Duration.ofMillis(1), Duration.ofMillis(2), jitter, asked, late);
-        Schedule.Bounds bounds = Schedule.bounds("(spaced(10) && recurs(1))", 1000, driver);
-        return List.of(bounds.most(), bounds.longest(), bounds.longestRun());
+        Duration forever = ChronoUnit.FOREVER.getDuration();
+        Schedule.Bounds late = Retry.of("(spaced(10) && recurs(1))").bounds(Guard.late(forever));
+        same(List.of(late.most(), late.longest().toString(), late.longestRun()),
+            List.of(OptionalLong.of(2), "PT5124095576030H25M51.615S", Optional.empty()));
     }
 
     /** Copies share a program and no state, and a state can be resumed. */
@@ -351,6 +543,9 @@ public final class OnlyInJava {
         }
         same(List.of(first.after(5, 0), first.output(), schedule.output()), List.of(OptionalLong.of(15), "(10,0)", "(20,1)"));
         same(((Schedule.Fault) thrown(() -> Schedule.resume("recurs(3)", schedule.state()))).number, 9);
+        long[] older = java.util.Arrays.copyOfRange(schedule.state(), 1, schedule.state().length);
+        same(((Schedule.Fault) thrown(() -> Schedule.resume(schedule.text(), older))).number, 18);
+        same(((Schedule.Fault) thrown(() -> Schedule.resume(schedule.text(), new long[0]))).number, 9);
     }
 
     /** A plan with each option, and one with a random draw. */
@@ -370,9 +565,20 @@ public final class OnlyInJava {
     }
 
     public static void main(String[] words) throws Exception {
+        if (words.length > 0) {
+            missing();
+            return;
+        }
         interrupt();
+        guarded();
+        standard();
+        events();
+        sleeps();
+        headers();
+        defaults();
         hooks();
         futures();
+        declared();
         results();
         early();
         falling();

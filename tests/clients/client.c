@@ -18,10 +18,22 @@
  *   later, loop, later_loop       as retry, but asynchronously (Python, Java, Rust), by a loop, by both (Python)
  *   order TEXT WHAT               retries an effect that fails with the code 7, with a budget of 10 tokens and the ratio 0.5.
  *                                 Prints what is called, in order: attempt, input (the hook for it), least (the hook of the
- *                                 least wait), sleep (the hook before one), end (the hook of a call that gives up); then the
+ *                                 least wait), and of each event sleep, or why the call ended (gave_up); then the
  *                                 code, or 'cancelled', and the tokens that remain. WHAT is plain; unretried (the error isn't
  *                                 retried); cancelled (in the first attempt); input or least (that hook fails); or broke (the
  *                                 budget has 1 token, and the ratio 0)
+ *   edge TEXT WHAT [MS]           retries an effect that fails with the code 503 and asks for 1500 ms if WHAT is longest, with
+ *                                 the option WHAT of MS ms: prints 'refused', or the number of attempts, and how the call
+ *                                 ended, and after two of them short or long, if they are less than a second apart or not
+ *   guarded TEXT SEED JITTER ASKED DEADLINE LATE LEAST MOST FALLS
+ *                                 a call over a clock that it alone moves, with a jitter of JITTER percent and a deadline,
+ *                                 unless DEADLINE is 0. By draws that follow from SEED it asks for up to twice ASKED ms,
+ *                                 unless that is 0, sleeps end up to LATE ms late, attempts take LEAST to MOST ms and fail, but
+ *                                 for the 200th, and if FALLS is 1 the clock falls now and then. Prints how many attempts there
+ *                                 are, in ns the longest wait, all waits and the end; and of its guard, which trusts these
+ *                                 times unless the clock falls, in ms the bounds `least`, `most`, `longest_ms`, `total_ms` and
+ *                                 `longest_run_ms`, or -1
+ *   said TEXT                     the message of a wrong text, in hexadecimal digits after a '.'
  *   limited, limited_later, limited_loop, limited_later_loop TEXT CODE TIMES MOST
  *                                 as retry, later and so on, but the first TIMES attempts take 5 s, or end with CODE some 30 ms
  *                                 after the limit of MOST ms that they get; a coroutine or future is cut off by it (not in C)
@@ -190,15 +202,17 @@ static void test_words(const schedule *it)
         is_well &= zs_program_begin(few, size - 1, it->state, state_size) == ZS_NO_PROGRAM;
     for (size_t short_size = 0; short_size < size; short_size += 1 + short_size / 4)
         is_well &= deny(it, short_size, state_size) == ZS_NO_PROGRAM;
-    for (uint64_t change = 1; change; change <<= 21) {
-        it->state[0] ^= change;
-        is_well &= deny(it, size, state_size) == ZS_OTHER_STATE;
-        it->state[0] ^= change;
-    }
+    for (uint64_t change = 1; change; change <<= 21)
+        for (size_t i = 0; i < 2; i++) {
+            it->state[i] ^= change;
+            is_well &= deny(it, size, state_size) == (i ? ZS_OTHER_STATE : ZS_OTHER_VERSION);
+            it->state[i] ^= change;
+        }
+    is_well &= deny(it, size, 0) == ZS_NO_ROOM && deny(it, 0, 0) == ZS_NO_PROGRAM;
     hold(is_well && memcmp(it->state, before, LENGTH(before, state_size)) == 0, it->of, "wrong words are rejected");
 }
 
-/* A step over words that, after the check word, represent no state returns, and changes none after the state. */
+/* A step over words that, after the first two, represent no state returns, and changes none after the state. */
 static void test_odd_states(const schedule *it)
 {
     static const uint64_t odd[] = {0, 1, 2, 1ull << 63, UINT64_MAX};
@@ -209,7 +223,7 @@ static void test_odd_states(const schedule *it)
     for (size_t kind = 0; kind < 5; kind++) {
         for (size_t i = 0; i < size; i++)
             words[i] = kind == 2 ? i * 0x9E3779B97F4A7C15 : odd[kind];
-        words[0] = it->state[0];
+        memcpy(words, it->state, LENGTH(words, 2));
         enum zs_status told = zs_output(it->program, it->size, words, size + 2, out, 9, &length);
         enum zs_status number = zs_program_step(it->program, it->size, words, size + 2, UINT64_MAX, 7, &next, &visits);
         hold(number <= ZS_DONE && is_untouched(words + size, LENGTH(words, 2)), it->of, "any words may be stepped");
@@ -241,18 +255,18 @@ static void turn_forged(const schedule *it, const uint64_t *program, uint64_t *s
 {
     OWN uint64_t *begin = (uint64_t *)block(NULL, sizeof *begin);
     OWN zs_turn *turn = (zs_turn *)block(NULL, sizeof *turn);
-    uint64_t *words = (uint64_t *)turn, last = state[1], planned = state[2];
+    uint64_t *words = (uint64_t *)turn, last = state[2], planned = state[3];
     turn->size = sizeof *turn;
     for (int i = 1; i < 7; i++)
         words[i] = draw(seed) >> draw(seed) % 64;
     enum zs_status number = zs_plan(program, it->size, state, state_size, turn, begin);
     if (number == ZS_FALLS)
-        hold(*begin == 0 && state[1] == last && state[2] == planned, it->of, "a turn fails, and changes nothing");
+        hold(*begin == 0 && state[2] == last && state[3] == planned, it->of, "a turn fails, and changes nothing");
     else
         hold(number <= ZS_DONE &&
-                 (number ? *begin == 0 && state[2] == planned
-                         : *begin >= turn->began_ns && *begin >= turn->ended_ns && state[2] == *begin / 1000000) &&
-                 state[0] == program[1] && state[1] > planned, it->of, "a turn has a plan");
+                 (number ? *begin == 0 && state[3] == planned
+                         : *begin >= turn->began_ns && *begin >= turn->ended_ns && state[3] == *begin / 1000000) &&
+                 state[1] == program[1] && state[2] > planned, it->of, "a turn has a plan");
 }
 
 /* Steps programs that are forged, each 8 times. Returns how many steps had a result. Others weren't begun. */
@@ -263,7 +277,7 @@ static uint64_t step_forged(const schedule *it, uint64_t count)
     for (; count; count--) {
         OWN uint64_t *program = (uint64_t *)block(it->program, LENGTH(program, size));
         forge(program, size, &seed);
-        uint64_t state_size = program[3] < 2 * size ? program[3] + 4 : it->state_size, moment = 0;
+        uint64_t state_size = program[3] < 2 * size ? program[3] + 5 : it->state_size, moment = 0;
         OWN uint64_t *state = (uint64_t *)block(NULL, LENGTH(state, state_size + 2));
         enum zs_status number = zs_program_begin(program, size, state, state_size);
         hold(number == ZS_OK || number == ZS_NO_PROGRAM || number == ZS_NO_ROOM, it->of, "a program is begun or denied");
@@ -271,11 +285,11 @@ static uint64_t step_forged(const schedule *it, uint64_t count)
             OWN char *out = (char *)block(NULL, 9);
             moment += draw(&seed) % 1000;
             number = zs_program_step(program, size, state, state_size + i % 3, moment, draw(&seed), &next, &visits);
-            hold(number <= ZS_DONE && visits <= 1000 && state[0] == program[1] && state[1] == moment &&
+            hold(number <= ZS_DONE && visits <= 1000 && state[1] == program[1] && state[2] == moment &&
                      zs_output(program, size, state, state_size + i % 3, out, 9, &length) == ZS_OK, it->of,
                  "a step has a result and an output");
             turn_forged(it, program, state, state_size + i % 3, &seed);
-            moment = state[1];
+            moment = state[2];
         }
         hold(is_untouched(state + state_size, LENGTH(state, 2)), it->of, "the words after a state are unchanged");
     }
@@ -451,10 +465,10 @@ static int is_retried(void *data, uint64_t code) { return code != ((effect *)dat
 
 static uint64_t least_ms(void *data, uint64_t code) { return code ? ((effect *)data)->least : 0; }
 
-static void before_sleep(void *data, uint64_t code, uint64_t attempt, uint64_t wait_ns)
+static void on_event(void *data, const retry_event *event)
 {
-    if (code)
-        fprintf(((effect *)data)->said, " %lu:%lu", attempt, wait_ns / 1000000);
+    if (event->why == RETRY_WAITS)
+        fprintf(((effect *)data)->said, " %lu:%lu", event->number, event->wait_ns / 1000000);
 }
 
 /* Says how a call ended, and then what was noted in the file, which it closes. */
@@ -466,7 +480,7 @@ static void say_end(retry_result result, FILE *noted, char *const *notes, FILE *
     else if (result.end == RETRY_CANCELLED)
         fputs(" cancelled", said);
     else
-        fprintf(said, result.end == RETRY_DONE ? " done" : " %lu", result.code);
+        fprintf(said, result.end == RETRY_SUCCEEDED ? " done" : " %lu", result.code);
     fputs(*notes, said);
 }
 
@@ -479,12 +493,15 @@ __attribute__((noinline)) static void say_retry(const request *it, FILE *said)
     size_t size;
     uint64_t at = 0;
     effect failing = {open_memstream(&notes, &size), retry_passed(0), numbers[0], numbers[1], 0, 0};
-    retry_options options = {NULL, NULL, 0, NULL, 0, NULL, NULL};
+    retry_options options = RETRY_OPTIONS;
     retry_policy policy;
     if (it->count > 2) {
-        const retry_options all = {is_retried, least_ms, it->count > 6 ? numbers[6] : 0, before_sleep,
-                                   (uint32_t)numbers[2], numbers[5] ? &budget : NULL, NULL};
-        options = all;
+        options.is_retried = is_retried;
+        options.least_ms = least_ms;
+        options.longest_ms = it->count > 6 ? (int64_t)numbers[6] : 0;
+        options.on_event = on_event;
+        options.percent = (uint32_t)numbers[2];
+        options.budget = numbers[5] ? &budget : NULL;
         failing.least = numbers[3];
         failing.stop = numbers[4];
     }
@@ -519,9 +536,13 @@ static uint64_t ordered_least_ms(void *data, uint64_t code)
     return code - 7;
 }
 
-static void ordered_before_sleep(void *data, uint64_t code, uint64_t attempt, uint64_t wait_ns)
+/* Says why a call ended, or that it sleeps. */
+static void ordered_event(void *data, const retry_event *event)
 {
-    fputs(code == 7 && attempt && wait_ns < 60000000000 ? " sleep" : " ?", ((order *)data)->said);
+    FILE *said = ((order *)data)->said;
+    fputc(' ', said);
+    for (const char *at = event->why == RETRY_WAITS ? "sleep" : retry_why(event->why); *at; at++)
+        fputc(*at == ' ' ? '_' : *at, said);
 }
 
 __attribute__((noinline)) static void say_order(const request *it, FILE *said)
@@ -530,9 +551,14 @@ __attribute__((noinline)) static void say_order(const request *it, FILE *said)
     retry_budget budget = RETRY_BUDGET(10000, 500), broke = RETRY_BUDGET(1000, 0);
     order noted = {said, it->what, 0};
     retry_budget *shared = strcmp(it->what, "broke") == 0 ? &broke : &budget;
-    const retry_options options = {ordered_is_retried, ordered_least_ms, 0, ordered_before_sleep, 0, shared, &noted.cancel};
+    retry_options options = RETRY_OPTIONS;
     retry_policy policy;
     uint64_t at;
+    options.is_retried = ordered_is_retried;
+    options.least_ms = ordered_least_ms;
+    options.on_event = ordered_event;
+    options.budget = shared;
+    options.cancel = &noted.cancel;
     hold(retry_compile(&policy, text, &at) == ZS_OK, it, "the policy has a program");
     retry_result result = retry(&policy, &options, ordered_attempt, &noted);
     if (result.end == RETRY_CANCELLED)
@@ -540,6 +566,120 @@ __attribute__((noinline)) static void say_order(const request *it, FILE *said)
     else
         fprintf(said, " %lu", result.code);
     fprintf(said, " %.1f", (double)shared->tokens / 1000);
+}
+
+/* When the attempts of a call of `edge` began, and the least wait that they ask for. */
+typedef struct edge {
+    uint64_t began[2], count, least;
+} edge;
+
+static uint64_t edge_attempt(void *data)
+{
+    edge *it = (edge *)data;
+    it->began[it->count++ % 2] = retry_passed(0);
+    return 503;
+}
+
+static uint64_t edge_least_ms(void *data, uint64_t code) { return code ? ((edge *)data)->least : 0; }
+
+__attribute__((noinline)) static void say_edge(const request *it, FILE *said)
+{
+    static const int cancelled = 1;
+    OWN char *text = strndup(it->text, it->text_len);
+    edge noted = {{0, 0}, 0, strcmp(it->what, "longest") == 0 ? 1500u : 0u};
+    retry_options options = RETRY_OPTIONS;
+    retry_policy policy;
+    uint64_t at;
+    options.least_ms = edge_least_ms;
+    options.longest_ms = it->count > 1 ? (int64_t)it->numbers[1] : 0;
+    options.cancel = strcmp(it->what, "cancelled") == 0 ? &cancelled : NULL;
+    hold(retry_compile(&policy, text, &at) == ZS_OK, it, "the policy has a program");
+    retry_result result = retry(&policy, &options, edge_attempt, &noted);
+    fprintf(said, result.end == RETRY_CANCELLED ? " %lu cancelled" : " %lu %lu", result.attempts, result.code);
+    if (result.attempts == 2)
+        fputs(noted.began[1] - noted.began[0] < 1000000000 ? " short" : " long", said);
+}
+
+/* A call of `guarded`: the request's numbers, the last draw, the clock, and what the call did. */
+typedef struct guarded {
+    const uint64_t *to;
+    uint64_t drawn, now, ended, attempts, longest, total;
+} guarded;
+
+/* Draws a number of at most so much. */
+static uint64_t guarded_draw(guarded *it, uint64_t most) { return draw(&it->drawn) % (most + 1); }
+
+/* Sets the clock back now and then. */
+static void guarded_fall(guarded *it)
+{
+    if (it->to[7] && guarded_draw(it, 3) == 0)
+        it->now -= 1000 * guarded_draw(it, 10000000);
+}
+
+static uint64_t guarded_now(void *data) { return ((guarded *)data)->now; }
+
+static void guarded_sleep(void *data, uint64_t time_ns)
+{
+    guarded *it = (guarded *)data;
+    it->now += time_ns + 1000 * guarded_draw(it, 1000 * it->to[4]);
+    guarded_fall(it);
+}
+
+static uint64_t guarded_least_ms(void *data, uint64_t code)
+{
+    guarded *it = (guarded *)data;
+    return code ? guarded_draw(it, 2 * it->to[2]) : 0;
+}
+
+static uint64_t guarded_attempt(void *data)
+{
+    guarded *it = (guarded *)data;
+    const uint64_t wait = it->now - it->ended;
+    it->longest = wait > it->longest ? wait : it->longest;
+    it->total += wait;
+    it->now += 1000 * (1000 * it->to[5] + guarded_draw(it, 1000 * (it->to[6] - it->to[5])));
+    guarded_fall(it);
+    it->ended = it->now;
+    return ++it->attempts < 200 ? 502 + guarded_draw(it, 2) : 0;
+}
+
+__attribute__((noinline)) static void say_guarded(const request *it, FILE *said)
+{
+    const uint64_t start = 1000000000000000, *to = it->numbers;
+    OWN char *text = strndup(it->text, it->text_len);
+    guarded noted = {to, to[0], start, start, 0, 0, 0};
+    const retry_clock clock = {guarded_now, guarded_sleep, &noted};
+    retry_guard guard = RETRY_GUARD(to[7] ? UINT64_MAX : to[4]);
+    retry_options options = RETRY_OPTIONS;
+    retry_policy policy;
+    zs_run_bounds found;
+    uint64_t at;
+    options.percent = (uint32_t)to[1];
+    options.least_ms = to[2] ? guarded_least_ms : NULL;
+    options.longest_ms = (int64_t)to[2];
+    options.deadline_ms = to[3];
+    options.clock = &clock;
+    guard.trusting_shortest_ms = to[7] ? 0 : to[5];
+    guard.trusting_longest_ms = to[7] ? 0 : to[6];
+    hold(retry_compile(&policy, text, &at) == ZS_OK, it, "the policy has a program");
+    retry(&policy, &options, guarded_attempt, &noted);
+    hold(retry_bounds(&policy, &options, &guard, &found) == ZS_OK, it, "the loop has bounds");
+    fprintf(said, " %lu %lu %lu %lu", noted.attempts, noted.longest, noted.total, noted.ended - start);
+    fprintf(said, " %lu %ld %lu %ld %ld", found.least, found.has_most ? (long)found.most : -1, found.longest_ms,
+            found.has_total ? (long)found.total_ms : -1, found.has_longest_run ? (long)found.longest_run_ms : -1);
+}
+
+__attribute__((noinline)) static void say_message(const request *it, FILE *said)
+{
+    OWN char *text = strndup(it->text, it->text_len);
+    char message[RETRY_MESSAGE_MOST];
+    retry_policy policy;
+    uint64_t at;
+    enum zs_status status = retry_compile(&policy, text, &at);
+    retry_explain(text, status, at, message, sizeof message);
+    fputs(" .", said);
+    for (size_t i = 0; message[i]; i++)
+        fprintf(said, "%02x", (unsigned char)message[i]);
 }
 
 static void step_many(const request *it)
@@ -586,6 +726,12 @@ static char *served(const request *it)
         say_restarted(it, said);
     else if (is(it, "order"))
         say_order(it, said);
+    else if (is(it, "edge"))
+        say_edge(it, said);
+    else if (is(it, "guarded"))
+        say_guarded(it, said);
+    else if (is(it, "said"))
+        say_message(it, said);
     else
         say_steps(it, said);
     fclose(said);

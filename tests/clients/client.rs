@@ -1,11 +1,12 @@
 //! The client of the library in Rust. client.c documents the requests and the lines.
 use std::future::{poll_fn, Future};
 use std::pin::pin;
+use std::sync::atomic::{AtomicU32, AtomicU64, Ordering::Relaxed};
 use std::sync::Mutex;
 use std::task::{Context, Poll, Waker};
 use std::thread::sleep;
 use std::time::{Duration, Instant};
-use zsched::{Budget, Driver, Fault, Retry, Schedule, Turn};
+use zsched::{Budget, Clock, Event, Fault, Guard, Retry, Schedule, Turn};
 
 static BUDGET: Budget = Budget::new(10.0, 0.5);
 
@@ -76,25 +77,107 @@ fn order(text: &str, what: &str) -> Result<String, Fault> {
         None
     };
     let retry = Retry::new(text)?.when(|_| what != "unretried").input_of(input_of).retry_after(least_of);
-    let retry = retry.notify(|_, _, _| say("sleep")).budget(&budget);
+    let event_of = |it: Event<'_, u64>| say(&it.why.map_or("sleep".to_owned(), |it| it.to_string().replace(' ', "_")));
+    let retry = retry.on_event(event_of).budget(&budget);
+    let attempt = || {
+        say("attempt");
+        Err::<(), u64>(7)
+    };
     if what == "cancelled" {
-        let attempt = || {
-            say("attempt");
-            std::future::pending::<Result<(), u64>>()
-        };
-        let mut call = pin!(retry.call_async(attempt, sleep_async));
-        assert!(call.as_mut().poll(&mut Context::from_waker(Waker::noop())).is_pending());
+        {
+            let pending = || {
+                say("attempt");
+                std::future::pending::<Result<(), u64>>()
+            };
+            let mut call = pin!(retry.call_async(pending, sleep_async));
+            assert!(call.as_mut().poll(&mut Context::from_waker(Waker::noop())).is_pending());
+        }
         say("cancelled");
     } else {
-        let ended = retry.call(|| {
-            say("attempt");
-            Err::<(), u64>(7)
-        });
-        say(&ended.expect_err("a failure").to_string());
+        say(&retry.call(attempt).expect_err("a failure").to_string());
     }
     say(&format!("{:.1}", budget.tokens()));
     drop(retry);
     Ok(said.into_inner().expect("one thread").join(" "))
+}
+
+/// Retries with an option at the edge of what it may be.
+fn edge(text: &str, what: &str, number: u64) -> String {
+    let (time, moments, start) = (Duration::from_millis(number), Mutex::new(Vec::new()), Instant::now());
+    let retry = Retry::new(text).expect("a schedule").input_of(|code: &u64| *code);
+    let set = || match what {
+        "limit" => retry.attempt_most(time, || 503),
+        "longest" => retry.retry_after_most(time).retry_after(|_| Some(Duration::from_millis(1500))),
+        _ => retry,
+    };
+    std::panic::set_hook(Box::new(|_| ()));
+    let Ok(retry) = std::panic::catch_unwind(std::panic::AssertUnwindSafe(set)) else { return "refused".to_owned() };
+    let ended = retry.call(|| {
+        moments.lock().expect("one thread").push(start.elapsed());
+        Err::<(), u64>(503)
+    });
+    let moments = moments.into_inner().expect("one thread");
+    let wait = moments.get(1).map_or("", |it| if *it < Duration::from_secs(1) { " short" } else { " long" });
+    format!("{} {}{wait}", moments.len(), ended.expect_err("a failure"))
+}
+
+/// A clock that a call alone moves, and the last draw.
+struct Driven {
+    now: AtomicU64,
+    drawn: AtomicU32,
+    late: u64,
+    falls: bool,
+}
+
+impl Driven {
+    fn draw(&self, most: u64) -> u64 {
+        let drawn = self.drawn.load(Relaxed).wrapping_mul(1_103_515_245).wrapping_add(12345);
+        self.drawn.store(drawn, Relaxed);
+        u64::from(drawn >> 16) * most / 65535
+    }
+
+    fn moved(&self, nanos: u64) {
+        self.now.fetch_add(nanos, Relaxed);
+        if self.falls && self.draw(3) == 0 {
+            self.now.fetch_sub(1000 * self.draw(10_000_000), Relaxed);
+        }
+    }
+}
+
+impl Clock for Driven {
+    fn now(&self) -> Duration {
+        Duration::from_nanos(self.now.load(Relaxed))
+    }
+
+    fn sleep(&self, time: Duration) {
+        self.moved(time.as_nanos() as u64 + 1000 * self.draw(1000 * self.late));
+    }
+}
+
+/// Makes a call over such a clock, and says what it did beside the bounds of its guard.
+fn guarded(text: &str, numbers: &[u64]) -> Result<String, Fault> {
+    const START: u64 = 1_000_000_000_000_000;
+    let [seed, jitter, asked, deadline, late, least, most, falls] = numbers[..] else { panic!("eight numbers") };
+    let clock = Driven { now: START.into(), drawn: (seed as u32).into(), late, falls: falls == 1 };
+    let (time, limit) = (Duration::from_millis, if deadline > 0 { Duration::from_millis(deadline) } else { Duration::MAX });
+    let retry = Retry::new(text)?.input_of(|code: &u64| *code).jitter(jitter as f64 / 100.0).deadline(limit).clock(&clock);
+    let retry = retry.retry_after_most(time(asked));
+    let retry = if asked > 0 { retry.retry_after(|_| Some(time(clock.draw(2 * asked)))) } else { retry };
+    let (mut attempts, mut ended, mut waits) = (0, START, vec![]);
+    let _ = retry.call(|| {
+        waits.push(clock.now.load(Relaxed).saturating_sub(ended));
+        clock.moved(1000 * (1000 * least + clock.draw(1000 * (most - least))));
+        (attempts, ended) = (attempts + 1, clock.now.load(Relaxed));
+        if attempts < 200 { Err(502 + clock.draw(2)) } else { Ok(()) }
+    });
+    let late = if falls == 1 { Duration::MAX } else { time(late) };
+    let guard = if falls == 1 { Guard::late(late) } else { Guard::late(late).trusting_attempts(time(least), time(most)) };
+    let found = retry.bounds(guard)?;
+    let or = |it: Option<Duration>| it.map_or(-1, |it| it.as_millis() as i64);
+    let (longest, total) = (waits.iter().max().expect("an attempt"), waits.iter().sum::<u64>());
+    let bounds = [or(Some(found.longest)), or(found.total), or(found.longest_run)].map(|it| it.to_string()).join(" ");
+    let most = found.most.map_or(-1, |it| it as i64);
+    Ok(format!("{attempts} {longest} {total} {} {} {most} {bounds}", ended.saturating_sub(START), found.least))
 }
 
 /// Polls a future each millisecond, and returns what it returns.
@@ -122,7 +205,11 @@ fn retry(command: &str, text: &str, numbers: &[u64]) -> Vec<String> {
         retry = if budget == 1 { retry.budget(&BUDGET) } else { retry };
         retry = retry.jitter(jitter as f64 / 100.0).when(move |code| *code != stop);
         retry = retry.retry_after(move |_| Some(Duration::from_millis(least)));
-        retry = retry.notify(|_, number, wait| say(format!("{number}:{}", wait.as_millis())));
+        retry = retry.on_event(|it| {
+            if let Some(wait) = it.wait {
+                say(format!("{}:{}", it.number, wait.as_millis()));
+            }
+        });
     }
     let mut attempt = || {
         say(start.elapsed().as_micros().to_string());
@@ -203,20 +290,29 @@ fn good(text: &str, count: u64) -> u128 {
 }
 
 fn bounds(text: &str, numbers: &[u64], said: &mut Vec<String>) -> Result<(), Fault> {
-    let driver = match numbers[1..] {
-        [] => Driver::default(),
-        [least, most] => Driver { least, most: Some(most), ..Driver::default() },
-        [least, most, jitter, asked, late] => {
-            Driver { least, most: Some(most), jitter: jitter as f64 / 100.0, asked, late }
-        }
+    let (time, retry) = (Duration::from_millis, Retry::<u64>::new(text)?);
+    let exact = Guard::late(Duration::ZERO).steps(numbers[0]);
+    let found = match numbers[1..] {
+        [] => retry.bounds(exact),
+        [least, most] => retry.bounds(exact.trusting_attempts(time(least), time(most))),
+        [least, most, jitter, asked, late] => retry
+            .jitter(jitter as f64 / 100.0)
+            .retry_after(|_| None)
+            .retry_after_most(time(asked))
+            .bounds(Guard::late(time(late)).steps(numbers[0]).trusting_attempts(time(least), time(most))),
         _ => panic!("one, three or six numbers"),
-    };
-    let found = zsched::bounds(text, numbers[0], driver)?;
+    }?;
     let limit = |limit: Option<u64>| [u64::from(limit.is_some()), limit.unwrap_or(0)];
-    let (most, total, run) = (limit(found.most), limit(found.total), limit(found.longest_run));
-    let words = [&[found.seen, found.least], &most[..], &[found.longest], &total, &run];
+    let millis = |it: Duration| it.as_millis() as u64;
+    let (most, total, run) = (limit(found.most), limit(found.total.map(millis)), limit(found.longest_run.map(millis)));
+    let words = [&[found.seen, found.least], &most[..], &[millis(found.longest)], &total, &run];
     said.extend(words.concat().iter().map(u64::to_string));
     Ok(())
+}
+
+fn said_of(text: &str) -> String {
+    let fault = Schedule::new(text).expect_err("a fault").to_string();
+    fault.bytes().fold(".".to_owned(), |said, it| format!("{said}{it:02x}"))
 }
 
 fn many(text: &str, count: u64) -> Result<(), Fault> {
@@ -252,13 +348,17 @@ fn main() {
             "bounds" => bounds(&text, &numbers, &mut said),
             "plan" => plan(&text, &numbers, &mut said),
             "restarted" => restarted(&text, &numbers).map(|it| said.push(it)),
+            "guarded" => guarded(&text, &numbers).map(|it| said.push(it)),
+            "said" => Ok(said.push(said_of(&text))),
+            "edge" => Ok(said.push(edge(&text, words[2], words.get(3).map_or(0, |it| it.parse().expect("a number"))))),
             "order" => order(&text, words[2]).map(|it| said.push(it)),
             "many" => many(&text, numbers[0]),
             command => steps(command, &text, &numbers, &mut said),
         };
         if let Err(fault) = ended {
-            let (number, at) = fault.number();
-            said.push(format!("{number},{at},{fault}"));
+            let (number, text) = (fault.kind() as u32, fault.to_string());
+            let words = text.lines().next().and_then(|it| it.split(": ").next()).expect("a line");
+            said.push(format!("{number},{},{words}", fault.at().unwrap_or(0)));
         }
         println!("{}", said.join(" "));
     }

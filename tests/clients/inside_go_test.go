@@ -12,9 +12,9 @@ func TestAClockBelowItsStartStandsStill(t *testing.T) {
 	defer cancel()
 	for _, jitter := range []float64{0, 1} {
 		waits := []time.Duration(nil)
-		run := run{policy: MustCompile("(spaced(10) && recurs(5))"), start: time.Now().Add(time.Hour)}
-		run.turn.Jitter = jitter
-		run.notify = func(_ error, _ int, wait time.Duration) { waits = append(waits, wait) }
+		loop := Retry{Schedule: MustCompile("(spaced(10) && recurs(5))"), Jitter: jitter}
+		run := run{Retry: &loop, start: time.Now().Add(time.Hour)}
+		loop.OnEvent = func(event Event) { waits = append(waits, event.Wait) }
 		for begun, number := time.Now(), 1; number <= 3; number++ {
 			again, err := run.next(ctx, errors.New("busy"))
 			passed, least, most := time.Since(begun), waits[0], time.Duration(11*number)*time.Millisecond

@@ -5,7 +5,9 @@ import (
 	"context"
 	"errors"
 	"fmt"
+	"io"
 	"math"
+	"os"
 	"strings"
 	"sync"
 	"sync/atomic"
@@ -15,27 +17,30 @@ import (
 	zsched "github.com/zsched/zsched/bindings/go"
 )
 
-const noAttempt = "zsched: the schedule or the attempt is nil"
-
 var errBusy = errors.New("busy")
 
 func busy(context.Context) error { return errBusy }
 
+// retry returns a Retry by a text.
+func retry(text string) *zsched.Retry { return &zsched.Retry{Schedule: zsched.MustCompile(text)} }
+
 func TestNoFunctionIsNoPanic(t *testing.T) {
-	if err := zsched.Retry(nil, zsched.MustCompile("recurs(2)"), nil, busy, zsched.Notify(nil), zsched.RetryAfter(nil)); err != errBusy {
+	const noAttempt = "zsched: the attempt is nil"
+	if err := retry("recurs(2)").Do(nil, busy); err != errBusy {
 		t.Error(err)
 	}
-	if err := zsched.Retry(context.Background(), zsched.MustCompile("recurs(2)"), nil, nil); err == nil || err.Error() != noAttempt {
+	if err := retry("recurs(2)").Do(context.Background(), nil); err == nil || err.Error() != noAttempt {
 		t.Error(err)
 	}
-	if _, err := zsched.RetryValue[int](context.Background(), zsched.MustCompile("recurs(2)"), nil, nil); err == nil || err.Error() != noAttempt {
+	_, err := zsched.RetryValue[int](context.Background(), retry("recurs(2)"), nil)
+	if err == nil || err.Error() != noAttempt {
 		t.Error(err)
 	}
 	none, fault := new(zsched.Schedule), new(zsched.Fault)
-	if err := zsched.Retry(context.Background(), none, nil, busy); err == nil || err.Error() != noAttempt {
+	if err := (&zsched.Retry{Schedule: none}).Do(context.Background(), busy); err == nil || err == errBusy {
 		t.Error(err)
 	}
-	_, _, after := none.After(1, 2)
+	_, _, after := none.AfterMillis(1, 2)
 	_, _, plan := none.Begin().Plan(zsched.Turn{})
 	_, output := none.Clone().Output()
 	for _, err := range []error{after, plan, output} {
@@ -45,26 +50,67 @@ func TestNoFunctionIsNoPanic(t *testing.T) {
 	}
 }
 
-func TestPermanentErrorsAreReturnedAtOnceAsTheyAre(t *testing.T) {
-	attempts := 0
-	err := zsched.Retry(context.Background(), zsched.MustCompile("forever"), nil, func(context.Context) error {
+func TestErrorsThatArentRetriedAreReturnedAtOnceAsTheyAre(t *testing.T) {
+	attempts, it := 0, retry("forever")
+	err := it.Do(context.Background(), func(context.Context) error {
 		attempts++
 		return fmt.Errorf("fetch: %w", zsched.Permanent(errBusy))
 	})
 	if attempts != 1 || err != errBusy || zsched.Permanent(nil) != nil {
 		t.Error(attempts, err)
 	}
+	budget := zsched.NewBudget(9, 1)
+	it.Budget, it.RetryIf = budget, func(err error) bool { return err == errBusy }
+	err = it.Do(context.Background(), func(context.Context) error {
+		if attempts++; attempts < 4 {
+			return errBusy
+		}
+		return io.EOF
+	})
+	if attempts != 4 || err != io.EOF || budget.Tokens() != 7 {
+		t.Error(attempts, err, budget.Tokens())
+	}
 }
 
 func TestAContextThatEndsInAWaitIsBothErrors(t *testing.T) {
-	longest := zsched.RetryAfter(func(error) time.Duration { return math.MaxInt64 })
-	for _, more := range [][]zsched.Option{nil, {longest, zsched.RetryAfterMost(math.MaxInt64)}} {
-		ctx, cancel := context.WithTimeout(context.Background(), 20*time.Millisecond)
-		err := zsched.Retry(ctx, zsched.MustCompile("spaced(100000)"), nil, busy, more...)
-		if !errors.Is(err, errBusy) || !errors.Is(err, context.DeadlineExceeded) || err.Error() != "busy (context deadline exceeded)" {
-			t.Error(err)
+	ctx, cancel := context.WithCancel(context.Background())
+	time.AfterFunc(20*time.Millisecond, cancel)
+	if err := retry("spaced(100000)").Do(ctx, busy); !errors.Is(err, errBusy) || !errors.Is(err, context.Canceled) {
+		t.Error(err)
+	}
+}
+
+func TestACallGivesUpAtOnceIfItsContextEndsBeforeTheNextAttempt(t *testing.T) {
+	ctx, cancel := context.WithTimeout(context.Background(), 50*time.Second)
+	defer cancel()
+	long := func(error) time.Duration { return math.MaxInt64 }
+	for _, it := range []zsched.Retry{{}, {RetryAfter: long}, {RetryAfter: long, RetryAfterMost: math.MaxInt64}} {
+		begun, why := time.Now(), zsched.Why("")
+		it.Schedule = zsched.MustCompile("spaced(100000)")
+		it.OnEvent = func(event zsched.Event) { why = event.Why }
+		err := it.Do(ctx, busy)
+		if !errors.Is(err, errBusy) || !errors.Is(err, context.DeadlineExceeded) || why != zsched.PastDeadline ||
+			err.Error() != "busy (context deadline exceeded)" || time.Since(begun) > 10*time.Second {
+			t.Error(err, why)
 		}
-		cancel()
+	}
+}
+
+func TestADeadlineEndsACallAtOnce(t *testing.T) {
+	for deadline, wanted := range map[time.Duration]int{306 * time.Millisecond: 4, 305 * time.Millisecond: 3} {
+		attempts, clock, it := 0, new(zsched.TestClock), retry("spaced(100)")
+		begun, why := clock.Now(), zsched.Why("")
+		it.Clock, it.Deadline, it.OnEvent = clock, deadline, func(event zsched.Event) { why = event.Why }
+		err := it.Do(context.Background(), func(context.Context) error {
+			attempts++
+			clock.Advance(time.Duration(attempts) * time.Millisecond)
+			return errBusy
+		})
+		// Attempts of 1, 2, 3 ms begin at 0, 101, 203 and 306 ms: a wait counts from the millisecond of an end.
+		if passed := clock.Now().Sub(begun); err != errBusy || why != zsched.PastDeadline || attempts != wanted ||
+			passed > deadline+4*time.Millisecond {
+			t.Error(err, why, attempts, passed)
+		}
 	}
 }
 
@@ -74,34 +120,40 @@ func (coded coded) Error() string { return "coded" }
 
 func TestAContextThatEndsInAnAttemptTakesNoToken(t *testing.T) {
 	ctx, cancel := context.WithCancel(context.Background())
-	budget := zsched.NewBudget(9, 1)
-	err := zsched.Retry(ctx, zsched.MustCompile("spaced(1)"), nil, func(context.Context) error {
+	budget, why, it := zsched.NewBudget(9, 1), []zsched.Why(nil), retry("spaced(1)")
+	it.Budget, it.OnEvent = budget, func(event zsched.Event) { why = append(why, event.Why) }
+	err := it.Do(ctx, func(context.Context) error {
 		cancel()
 		return coded{7}
-	}, zsched.WithBudget(budget), zsched.Notify(func(_ error, _ int, wait time.Duration) { t.Error(wait) }))
+	})
 	var found coded
-	if !errors.Is(err, context.Canceled) || !errors.As(err, &found) || found.code != 7 || budget.Tokens() != 9 {
-		t.Error(err, found, budget.Tokens())
+	if !errors.Is(err, context.Canceled) || !errors.As(err, &found) || found.code != 7 || budget.Tokens() != 9 ||
+		len(why) != 1 || why[0] != zsched.Cancelled {
+		t.Error(err, found, budget.Tokens(), why)
 	}
 }
 
 func TestAWaitIsNotNegative(t *testing.T) {
-	waits := 0
-	_ = zsched.Retry(context.Background(), zsched.MustCompile("recurs(3)"), nil, func(context.Context) error {
+	waits, it := 0, retry("recurs(3)")
+	it.OnEvent = func(event zsched.Event) {
+		if event.Why == "" {
+			waits++
+		}
+		if event.Wait < 0 {
+			t.Error(event)
+		}
+	}
+	_ = it.Do(context.Background(), func(context.Context) error {
 		time.Sleep(1700 * time.Microsecond)
 		return errBusy
-	}, zsched.Notify(func(_ error, _ int, wait time.Duration) {
-		if waits++; wait < 0 {
-			t.Error(wait)
-		}
-	}))
+	})
 	if waits != 3 {
 		t.Error(waits)
 	}
 }
 
 func next(t *testing.T, schedule *zsched.Schedule, moment uint64) uint64 {
-	next, ok, err := schedule.After(moment, 0)
+	next, ok, err := schedule.AfterMillis(moment, 0)
 	if !ok || err != nil {
 		t.Error(schedule, moment, ok, err)
 	}
@@ -123,6 +175,15 @@ func TestAScheduleStepsWithoutItsClones(t *testing.T) {
 		if found := next(t, it, 20); found != wanted {
 			t.Error(found, wanted)
 		}
+	}
+	fault := new(zsched.Fault)
+	for _, words := range [][]uint64{nil, schedule.State()[1:]} {
+		if _, err := zsched.Resume(schedule.String(), words); !errors.As(err, &fault) || fault.Number != zsched.OtherVersion {
+			t.Error(err)
+		}
+	}
+	if _, err := zsched.Resume("recurs(9)", schedule.State()); !errors.As(err, &fault) || fault.Number != zsched.OtherState {
+		t.Error(err)
 	}
 }
 
@@ -184,43 +245,214 @@ func TestAStepAllocatesNothing(t *testing.T) {
 }
 
 func TestRetryAfterIsHonouredUpToItsMost(t *testing.T) {
-	for most, wanted := range map[time.Duration]time.Duration{-1: 0, 0: 0, 20 * time.Millisecond: 20 * time.Millisecond} {
-		waited := time.Duration(-1)
-		err := zsched.Retry(context.Background(), zsched.MustCompile("recurs(1)"), nil, busy,
-			zsched.RetryAfter(func(error) time.Duration { return math.MaxInt64 }), zsched.RetryAfterMost(most),
-			zsched.Notify(func(_ error, _ int, wait time.Duration) { waited = wait }))
+	for most, wanted := range map[time.Duration]time.Duration{
+		-1: 0, 0: time.Hour, 20 * time.Millisecond: 20 * time.Millisecond, 1: time.Millisecond} {
+		waited, it := time.Duration(-1), retry("recurs(1)")
+		it.RetryAfter, it.RetryAfterMost = func(error) time.Duration { return math.MaxInt64 }, most
+		it.Clock = new(zsched.TestClock)
+		it.OnEvent = func(event zsched.Event) {
+			if event.Why == "" {
+				waited = event.Wait
+			}
+		}
+		err := it.Do(context.Background(), busy)
 		if err != errBusy || waited < wanted || waited > wanted+time.Millisecond {
 			t.Error(err, most, waited)
 		}
 	}
 }
 
-func TestAttemptsWithJitterAreWithinTheirBounds(t *testing.T) {
-	text, attempts := "(spaced(20) && elapsed).whileOutput(_2 < 400)", uint64(0)
-	_ = zsched.Retry(context.Background(), zsched.MustCompile(text), nil, func(context.Context) error {
-		attempts++
-		time.Sleep(10 * time.Millisecond)
-		return errBusy
-	}, zsched.Jitter(1))
-	bounds, err := zsched.BoundsOf(text, 1000, zsched.Driver{Least: 10, Jitter: 1})
-	if err != nil || !bounds.HasMost || attempts > bounds.Most {
-		t.Error(attempts, bounds, err)
+func TestABoundIsHeldOrNot(t *testing.T) {
+	// 6 attempts, and 3100 milliseconds
+	ms := time.Millisecond
+	bounds, err := zsched.BoundsOf("(exponential(100) && recurs(5))", zsched.Driver{})
+	if err != nil || !bounds.Within(6, 3100*ms) || bounds.Within(5, 3100*ms) || bounds.Within(6, 3099*ms) {
+		t.Error(bounds, err)
+	}
+	driver := zsched.Driver{Steps: 9, Most: 10 * ms, Jitter: 0.5, Asked: 500 * ms, Late: ms}
+	if bounds, err = zsched.BoundsOf("(spaced(100) && recurs(2))", driver); err != nil ||
+		!bounds.Within(3, 1002*ms) || bounds.Within(3, 1001*ms) || !bounds.EndsWithin(1033*ms) || bounds.EndsWithin(1032*ms) {
+		t.Error(bounds, err)
+	}
+	if bounds, err = zsched.BoundsOf("spaced(1)", zsched.Driver{}); err != nil || bounds.Within(1<<63, math.MaxInt64) {
+		t.Error(bounds, err)
+	}
+	// No Duration has 300 years.
+	long := zsched.Driver{Most: math.MaxInt64}
+	if bounds, err = zsched.BoundsOf("(spaced(9467280000000) && recurs(1))", long); err != nil || !bounds.HasMost ||
+		bounds.HasTotal || bounds.HasLongestRun || bounds.Longest != math.MaxInt64 || bounds.EndsWithin(math.MaxInt64) {
+		t.Error(bounds, err)
 	}
 }
 
-func TestABoundIsHeldOrNot(t *testing.T) {
-	// 6 attempts, and 3100 milliseconds
-	bounds, err := zsched.BoundsOf("(exponential(100) && recurs(5))", 1000, zsched.Driver{})
-	if err != nil || !bounds.Within(6, 3100) || bounds.Within(5, 3100) || bounds.Within(6, 3099) {
-		t.Error(bounds, err)
+func TestTheDefaultHasTheBoundsOfThePage(t *testing.T) {
+	bounds, err := new(zsched.Retry).Bounds(0, zsched.TrustingAttempts(0, 5*time.Second))
+	said := fmt.Sprintf("at most %d attempts, waits of at most %v and of %v together", bounds.Most, bounds.Longest,
+		bounds.Total)
+	page, failed := os.ReadFile("README.md")
+	if err != nil || failed != nil || !bounds.HasMost || !bounds.HasTotal || !strings.Contains(string(page), said) {
+		t.Error(said, err, failed)
 	}
-	driver := zsched.Driver{Most: 10, Jitter: 0.5, Asked: 500, Late: 1}
-	if bounds, err = zsched.BoundsOf("(spaced(100) && recurs(2))", 9, driver); err != nil ||
-		!bounds.Within(3, 1002) || bounds.Within(3, 1001) || !bounds.EndsWithin(1032) || bounds.EndsWithin(1031) {
-		t.Error(bounds, err)
+	seen := map[time.Duration]bool{}
+	it := zsched.Retry{Clock: new(zsched.TestClock), OnEvent: func(event zsched.Event) { seen[event.Wait] = true }}
+	for i := 0; i < 5; i++ {
+		_ = it.Do(context.Background(), busy)
 	}
-	if bounds, err = zsched.BoundsOf("spaced(1)", 9, zsched.Driver{}); err != nil || bounds.Within(1<<63, 1<<63) {
-		t.Error(bounds, err)
+	if len(seen) < 10 {
+		t.Error("waits aren't drawn", seen)
+	}
+}
+
+func TestEachOptionOfALoopChangesItsBounds(t *testing.T) {
+	ms, s, trusted := time.Millisecond, time.Second, zsched.TrustingAttempts(0, 5*time.Second)
+	asked := func(error) time.Duration { return time.Hour }
+	same := func(*zsched.Retry) {}
+	for name, it := range map[string]struct {
+		change func(*zsched.Retry)
+		late   time.Duration
+		more   []zsched.Guard
+		// attempts, waits and the end
+		least, most         uint64
+		longest, total, run time.Duration
+	}{
+		"none":         {same, 0, nil, 9, 9, 5 * s, 16300 * ms, 0},
+		"trust":        {same, 0, []zsched.Guard{trusted}, 9, 9, 5 * s, 16300 * ms, 61301 * ms},
+		"late":         {same, 100 * ms, []zsched.Guard{trusted}, 9, 9, 5100 * ms, 17100 * ms, 62101 * ms},
+		"any lateness": {same, math.MaxInt64, []zsched.Guard{trusted}, 9, 9, math.MaxInt64, 0, 0},
+		"steps":        {same, 0, []zsched.Guard{trusted, zsched.Steps(3)}, 4, 0, 400 * ms, 0, 0},
+		"limit":        {func(it *zsched.Retry) { it.AttemptMost = s }, 0, nil, 9, 9, 5 * s, 16300 * ms, 25301 * ms},
+		"late limit":   {func(it *zsched.Retry) { it.AttemptMost = s }, 100 * ms, nil, 9, 9, 5100 * ms, 17100 * ms, 27001 * ms},
+		"least waits": {func(it *zsched.Retry) { it.RetryAfter = asked }, 0, []zsched.Guard{trusted}, 9, 9, time.Hour,
+			8 * time.Hour, 8*time.Hour + 45001*ms},
+		"their most": {func(it *zsched.Retry) { it.RetryAfter, it.RetryAfterMost = asked, 10*s }, 0, []zsched.Guard{trusted},
+			9, 9, 10 * s, 80 * s, 125001 * ms},
+		"no least wait": {func(it *zsched.Retry) { it.RetryAfter, it.RetryAfterMost = asked, -1 }, 0, []zsched.Guard{trusted},
+			9, 9, 5 * s, 16300 * ms, 61301 * ms},
+		"deadline": {func(it *zsched.Retry) { it.Deadline = 4 * s }, 100 * ms, []zsched.Guard{trusted}, 1, 9, 4100 * ms,
+			4100 * ms, 9100 * ms},
+		"budget": {func(it *zsched.Retry) { it.Budget = zsched.NewBudget(10, 0.1) }, 0, nil, 1, 9, 5 * s, 16300 * ms, 0},
+		"schedule": {func(it *zsched.Retry) { it.Schedule = zsched.MustCompile("(spaced(9) && recurs(1))") }, 0, nil, 2, 2,
+			9 * ms, 9 * ms, 0},
+	} {
+		loop := retry("((exponential(100) || spaced(5000)) && recurs(8))")
+		it.change(loop)
+		bounds, err := loop.Bounds(it.late, it.more...)
+		if err != nil || bounds.Least != it.least || bounds.Most != it.most || bounds.Longest != it.longest ||
+			bounds.Total != it.total || bounds.LongestRun != it.run || bounds.HasLongestRun != (it.run > 0) {
+			t.Error(name, bounds, err)
+		}
+		if is := it.run > 0 && it.run < 90*s; bounds.EndsWithin(90*s) != is {
+			t.Error(name, bounds)
+		}
+	}
+	// Jitter lets more attempts begin in a time.
+	loop := retry("(spaced(400) && elapsed).whileOutput(_2 < 2000)")
+	whole, _ := loop.Bounds(0)
+	loop.Jitter = 0.5
+	if half, _ := loop.Bounds(0); whole.Most != 6 || half.Most != 11 {
+		t.Error(whole, half)
+	}
+	// A killed attempt of a journal takes no time.
+	slow, _ := loop.Bounds(0, zsched.TrustingAttempts(s, s))
+	loop.Journal = zsched.NewJournal("job.journal")
+	if killed, _ := loop.Bounds(0, zsched.TrustingAttempts(s, s)); slow.Most >= 11 || killed.Most != 11 {
+		t.Error(slow, killed)
+	}
+	_, late := loop.Bounds(-1)
+	_, least := loop.Bounds(0, zsched.TrustingAttempts(-s, s))
+	if _, most := loop.Bounds(0, zsched.TrustingAttempts(s, -s)); late == nil || least == nil || most == nil {
+		t.Error(late, least, most)
+	}
+}
+
+func TestATestClockDecidesAsInProduction(t *testing.T) {
+	clock, events := new(zsched.TestClock), []zsched.Event(nil)
+	loop := retry("((exponential(100) || spaced(5000)) && recurs(8))")
+	begun, attempts := time.Now(), 0
+	loop.Clock, loop.Name, loop.OnEvent = clock, "fetch", func(event zsched.Event) { events = append(events, event) }
+	err := loop.Do(context.Background(), func(context.Context) error {
+		attempts++
+		clock.Advance(5 * time.Millisecond)
+		return errBusy
+	})
+	if err != errBusy || attempts != 9 || len(events) != 9 || time.Since(begun) > 5*time.Second {
+		t.Fatal(err, attempts, events)
+	}
+	elapsed := 5 * time.Millisecond
+	for i, wait := range []time.Duration{100, 200, 400, 800, 1600, 3200, 5000, 5000, 0} {
+		event := zsched.Event{Name: "fetch", Attempt: i + 1, Err: errBusy, Elapsed: elapsed, Wait: wait * time.Millisecond}
+		if wait == 0 {
+			event.Why = zsched.GaveUp
+		}
+		if events[i] != event {
+			t.Error(events[i], event)
+		}
+		elapsed += event.Wait + 5*time.Millisecond
+	}
+}
+
+// stands is a Clock whose Sleep returns at once, as a stub's does.
+type stands struct{ slept int }
+
+func (*stands) Now() time.Time                             { return time.Unix(0, 0) }
+func (clock *stands) Sleep(context.Context, time.Duration) { clock.slept++ }
+
+func TestASleepThatReturnsEarlyIsAnErrorThatNamesTheTestClock(t *testing.T) {
+	clock, loop, attempts := new(stands), retry("spaced(1000)"), 0
+	loop.Clock = clock
+	err := loop.Do(context.Background(), func(context.Context) error {
+		attempts++
+		return errBusy
+	})
+	if attempts != 1 || clock.slept != 101 || !errors.Is(err, errBusy) ||
+		!strings.Contains(err.Error(), "*zsched.TestClock") {
+		t.Error(attempts, clock.slept, err)
+	}
+}
+
+func TestAnEventSaysWhyACallEnds(t *testing.T) {
+	ended, cancel := context.WithCancel(context.Background())
+	cancel()
+	late, free := context.WithDeadline(context.Background(), time.Now().Add(-time.Second))
+	defer free()
+	for _, it := range []struct {
+		loop    zsched.Retry
+		ctx     context.Context
+		failing error
+		wanted  string
+	}{
+		{zsched.Retry{}, context.Background(), nil, "1 succeeded <nil>"},
+		{zsched.Retry{Schedule: zsched.MustCompile("recurs(0)")}, nil, errBusy, "1 gave up busy"},
+		{zsched.Retry{Deadline: 1}, nil, errBusy, "1 deadline busy"},
+		{zsched.Retry{Budget: zsched.NewBudget(1, 0)}, nil, errBusy, "1 budget busy"},
+		{zsched.Retry{RetryIf: func(error) bool { return false }}, nil, errBusy, "1 not retried busy"},
+		{zsched.Retry{}, nil, zsched.Permanent(errBusy), "1 not retried busy"},
+		{zsched.Retry{}, ended, nil, "0 cancelled <nil>"},
+		{zsched.Retry{}, late, nil, "0 deadline <nil>"},
+	} {
+		said := []string(nil)
+		it.loop.OnEvent = func(event zsched.Event) {
+			said = append(said, fmt.Sprint(event.Attempt, " ", event.Why, " ", event.Err))
+		}
+		err := it.loop.Do(it.ctx, func(context.Context) error { return it.failing })
+		if len(said) != 1 || said[0] != it.wanted || it.ctx == ended && err != context.Canceled {
+			t.Error(said, it.wanted, err)
+		}
+	}
+}
+
+func TestARetryAfterIsSecondsOrADate(t *testing.T) {
+	now := time.Date(2026, 11, 29, 22, 0, 0, 0, time.UTC)
+	for header, wanted := range map[string]time.Duration{
+		"120": 2 * time.Minute, " 7 ": 7 * time.Second, "0": 0, "": 0, "-3": 0, "1.5": 0, "soon": 0, "1e3": 0, "0x10": 0,
+		"99999999999999999999": math.MaxInt64, "9000000000": 9000000000 * time.Second, "9223372037": math.MaxInt64,
+		"Sun, 29 Nov 2026 22:00:30 GMT": 30 * time.Second, "Sun, 29 Nov 2026 21:59:59 GMT": 0,
+		"Sunday, 29-Nov-26 22:01:00 GMT": time.Minute, "Sun Nov 29 22:00:01 2026": time.Second,
+		"Sun, 29 Nov 2026 22:00:30": 0, "2026-11-29T22:00:30Z": 0,
+	} {
+		if found := zsched.RetryAfterOf(header, now); found != wanted {
+			t.Error(header, found, wanted)
+		}
 	}
 }
 
@@ -239,7 +471,11 @@ func TestWrongTextsAndNumbersAreRefused(t *testing.T) {
 	if _, err = zsched.Compile("forever.collectAll"); !errors.As(err, &fault) || fault.Number != zsched.KeepsList {
 		t.Error(err)
 	}
-	_, err = zsched.BoundsOf("forever", 9, zsched.Driver{Least: 6, Most: 5})
+	if err.Error() != "an output with a list has no state of fixed size\nforever.collectAll" ||
+		fault.Text != "forever.collectAll" {
+		t.Error(err)
+	}
+	_, err = zsched.BoundsOf("forever", zsched.Driver{Least: 6 * time.Millisecond, Most: 5 * time.Millisecond})
 	if !errors.As(err, &fault) || fault.Number != zsched.NoDriver {
 		t.Error(err)
 	}
@@ -247,15 +483,17 @@ func TestWrongTextsAndNumbersAreRefused(t *testing.T) {
 		if !panics(func() { zsched.NewBudget(wrong, 0.1) }) || !panics(func() { zsched.NewBudget(10, wrong) }) {
 			t.Error(wrong)
 		}
-		attempts := 0
-		err := zsched.Retry(context.Background(), zsched.MustCompile("recurs(2)"), nil, func(context.Context) error {
+		attempts, loop := 0, retry("recurs(2)")
+		loop.Jitter = wrong
+		err := loop.Do(context.Background(), func(context.Context) error {
 			attempts++
 			return errBusy
-		}, zsched.Jitter(wrong))
+		})
+		_, guard := loop.Bounds(0)
 		_, _, plan := zsched.MustCompile("forever").Plan(zsched.Turn{Jitter: wrong})
-		_, bounds := zsched.BoundsOf("forever", 9, zsched.Driver{Jitter: wrong})
-		if err == nil || err == errBusy || attempts != 0 || plan == nil || bounds == nil {
-			t.Error(wrong, err, attempts, plan, bounds)
+		_, bounds := zsched.BoundsOf("forever", zsched.Driver{Jitter: wrong})
+		if err == nil || err == errBusy || attempts != 0 || plan == nil || bounds == nil || guard == nil {
+			t.Error(wrong, err, attempts, plan, bounds, guard)
 		}
 	}
 	if zsched.NewBudget(0, 0).Take() {
@@ -265,33 +503,34 @@ func TestWrongTextsAndNumbersAreRefused(t *testing.T) {
 
 func TestAnAttemptThatOutlastsItsLimitAndTheContextThatEndsIt(t *testing.T) {
 	ctx, cancel := context.WithCancel(context.Background())
-	attempts := 0
-	err := zsched.Retry(ctx, zsched.MustCompile("recurs(5)"), nil, func(limited context.Context) error {
+	attempts, loop := 0, retry("recurs(5)")
+	loop.AttemptMost = 20 * time.Millisecond
+	err := loop.Do(ctx, func(limited context.Context) error {
 		<-limited.Done()
 		if attempts++; attempts == 2 {
 			cancel()
 		}
 		return limited.Err()
-	}, zsched.AttemptMost(20*time.Millisecond))
+	})
 	if attempts != 2 || !errors.Is(err, context.DeadlineExceeded) || !errors.Is(err, context.Canceled) {
 		t.Error(attempts, err)
 	}
 }
 
 func TestGoroutinesShareASchedule(t *testing.T) {
-	schedule, attempts, group := zsched.MustCompile("recurs(20)"), int64(0), sync.WaitGroup{}
+	loop, attempts, group := retry("recurs(20)"), int64(0), sync.WaitGroup{}
 	for i := 0; i < 8; i++ {
 		group.Add(1)
 		go func() {
 			defer group.Done()
-			_ = zsched.Retry(context.Background(), schedule, nil, func(context.Context) error {
+			_ = loop.Do(context.Background(), func(context.Context) error {
 				atomic.AddInt64(&attempts, 1)
 				return errBusy
 			})
 		}()
 	}
 	for moment := uint64(1); moment < 20; moment++ {
-		next(t, schedule, moment)
+		next(t, loop.Schedule, moment)
 	}
 	if group.Wait(); attempts != 8*21 {
 		t.Error(attempts)

@@ -84,8 +84,10 @@ class Moments:
                 found = _seconds(f"{day}T{time}{(zone or 'Z').upper()}") * 10**9 + int((fraction or "0").ljust(9, "0"))
             except ValueError as fault:
                 raise column.refused(row, f'"{shown(cell)}" is not a moment: {fault}') from None
-        if found > MOST_NANOSECONDS:
-            raise column.refused(row, f'"{shown(cell)}" is after the year 2262')
+        if abs(found) > MOST_NANOSECONDS:
+            what = "is after the year 2262" if found > 0 else (
+                "is before the year 1678; Go and .NET write 0001-01-01 for a moment that is missing")
+            raise column.refused(row, f'"{shown(cell)}" {what}')
         return found
 
     def _unit_of(self, value):

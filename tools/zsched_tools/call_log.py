@@ -1,5 +1,5 @@
-"""A log of calls, read as attempts with their moments: CSV, JSON lines, or the JSON of OpenTelemetry's or Jaeger's
-spans.
+"""A log of calls, read as attempts with their moments: CSV, JSON lines, Envoy's access log, or the JSON of
+OpenTelemetry's or Jaeger's spans.
 
 Moments and lengths are whole nanoseconds here. A log may have millions of rows: of each only a few numbers stay in
 memory. A cell that isn't understood, or has no request, is an error with its row and column."""
@@ -11,10 +11,13 @@ import gc
 import io
 import itertools
 import json
+import math
+import operator
 import re
 from typing import NamedTuple
 
-from zsched_tools.call_cells import MOST_CODE, UNITS, Column, Lengths, Moments, Statuses, is_moment, plain_name
+from zsched_tools.call_cells import (MOST_CODE, MOST_NANOSECONDS, UNITS, Column, Lengths, Moments, Statuses, is_moment,
+                                     plain_name)
 from zsched_tools.command import Refused, number
 from zsched_tools.progress import Progress
 from zsched_tools.words import listed, plural, shown
@@ -29,14 +32,38 @@ LENGTHS = ["latency", "duration", "elapsed", "took", "response_time", "request_t
 STATUSES = ["status_code", "http_status", "http_status_code", "http_response_status_code", "response_code",
             "grpc_status", "grpc_code", "status", "code", "outcome", "result", "status_status_code"]
 ENDPOINTS = ["endpoint", "path", "url", "uri", "route", "target", "host", "upstream", "service", "name"]
+# What is an attempt's endpoint, each column that is there; and the requests that may call several, each a request.
+PARTS = {"method", "http_method", "http_request_method", "request_method", "rpc_method", "service", "peer_service",
+         "rpc_service", "host", "authority", "http_host", "server_address", "server_port", "net_peer_name",
+         "net_peer_port", "endpoint", "path", "http_path", "request_path", "url_path", "url", "http_url", "url_full",
+         "uri", "request_uri", "route", "http_route", "url_template", "target", "http_target"}
+SHARED = {"parent", "parent_span_id", "parent_id", "trace_id"}
 # What each option names, in words.
 ROLES = {"--name": "request", "--begin": "begin", "--end": "end", "--time": "length", "--status": "status",
          "--endpoint": "endpoint"}
 # How packed files begin, and what unpacks them.
 PACKED = {b"\x1f\x8b": "gzip: zcat", b"\x28\xb5\x2f\xfd": "zstd: zstdcat", b"BZh": "bzip2: bzcat",
           b"\xfd7zXZ": "xz: xzcat"}
+# Exports of systems that store logs: the keys by which each is known, and what makes rows of the lines in it.
+_EXPORTS = {
+    "Loki": ([["data", "result", 0, "values"]],
+             ".data.result[].values[] | {timestamp: .[0]} + (.[1] | fromjson)"),
+    "logcli": ([["labels"], ["line"], ["timestamp"]], "{timestamp} + (.line | fromjson)"),
+    "CloudWatch": ([["events", 0, "message"], ["events", 0, "timestamp"]],
+                   ".events[] | {timestamp} + (.message | fromjson)"),
+    "CloudWatch Insights": ([["results", 0, 0, "field"]], ".results[] | map({(.field): .value}) | add"),
+    "Datadog": ([["data", 0, "attributes", "attributes"]], ".data[].attributes | del(.attributes) + .attributes")}
+# The columns by which a log of pino is known, of pino-http or Fastify, and what makes rows of it. Its moments are ends.
+_PINO = {"level", "time", "pid", "hostname", "res.statusCode"}
+_PINO_ROWS = ('select(.res) | {request_id: (.req.headers["x-request-id"] // .req.id // .reqId), method: .req.method, '
+              "url: .req.url, end: .time, duration_ms: .responseTime, status: (.res.statusCode // 0)}")
+# A line of Envoy's access log in its usual form, or in Istio's, which has three more words after the flags.
+_ENVOY = re.compile(r'\[(?P<start_time>[0-9]{4}-[^] ]*)\] "(?P<method>\S*) (?P<path>\S*) [^"]*" '
+                    r'(?P<response_code>[0-9]+) \S+ (?:\S+ \S+ "[^"]*" )?[0-9]+ [0-9]+ (?P<duration>[0-9]+) \S+ '
+                    r'"[^"]*" "[^"]*" "(?P<request_id>[^"]*)" "(?P<authority>[^"]*)"')
 # The keys of spans with a status, and what a client's span and an error are.
 _SPAN_CODES = ["http.response.status_code", "http.status_code", "rpc.grpc.status_code"]
+_SPAN_TEXTS = ["traceId", "spanId", "parentSpanId", "name"]
 _CLIENT = ("3", "SPAN_KIND_CLIENT")
 _ERROR = ("2", "STATUS_CODE_ERROR")
 _ROWS = 5000
@@ -59,17 +86,19 @@ class Notes:
 
 
 class Call(NamedTuple):
-    """An attempt. Without moments `begin` is None, and `length` is None if no column has it."""
+    """An attempt. Without moments `begin` is None; `length` is None if no column has it. Equal rows have one `mark`."""
     begin: int | None
     length: int | None
     is_ok: bool
     code: int
     row: int
+    mark: int
 
 
 def add_options(group):
     """Adds the options of a log to a command's."""
-    for option, what in list(ROLES.items())[:-1]:
+    group.add_argument("--name", metavar="COLUMN", help="the column with the request of an attempt, or several, as a,b")
+    for option, what in list(ROLES.items())[1:-1]:
         group.add_argument(option, metavar="COLUMN", help=f"the column with the {what} of an attempt")
     group.add_argument("--unit", choices=list(UNITS), help="the unit of lengths (by the column's name, else ms)")
     group.add_argument("--timestamps", choices=["begin", "end"], default="begin",
@@ -86,12 +115,13 @@ def in_ms(length):
 
 class Reader:
     """A log of calls, read as the options of a command say; `told` says how the columns were read. The attempts are in
-    the order of the rows: their requests, begins, lengths, statuses and rows."""
+    the order of the rows: their requests, which are numbers of `names`, begins, lengths, statuses, rows and marks.
+    `latest` is the last moment of the rows that --endpoint leaves out."""
 
     def __init__(self, tool, path, data, given, notes):
         self.path, self.given = path, given
-        self.names, self.begins, self.lengths, self.statuses = [], array.array("q"), [], []
-        self.rows = array.array("Q")
+        self.requested, self.begins, self.lengths, self.statuses = array.array("L"), array.array("q"), [], []
+        self.rows, self.marks, self.latest = array.array("Q"), array.array("q"), -math.inf
         progress = Progress(tool, lambda rows: f"reads {path}: {rows:,} rows")
         # What is made for each row has no cycles, and looking for some takes half of the time.
         gc.disable()
@@ -101,6 +131,7 @@ class Reader:
             self.head = [name.strip() for name in head]
             if not self.head:
                 raise Refused(f"{path}:1: the log has no attempt")
+            self._refuse_missing(tool)
             self._find_columns(firsts[0][1] if firsts else [])
             self._take(itertools.chain(firsts, rows), notes, progress)
         except UnicodeDecodeError:
@@ -129,11 +160,30 @@ class Reader:
                 else f"no known column has the {ROLES[option]} of an attempt{names_it}")
         raise Refused(f"{self.path}:1: {what}; the columns are {listed([shown(name) for name in names]) or 'none'}")
 
+    def _refuse_missing(self, tool):
+        """Rejects a log in which no known column has several things that a row must have, and names all of them.
+        Lengths will do for a plan."""
+        given, moments = self.given, BEGINS + ENDS + STAMPS + (LENGTHS if tool == "zsched-plan" else [])
+        if _PINO <= {*self.head} and given.name is given.status is None:
+            raise Refused(f"{self.path}:1: this is a log of pino: jq -c '{_PINO_ROWS}' makes rows of it, and - reads "
+                          "what that prints")
+        known = {"--name": REQUESTS, "--status": STATUSES, "--begin": moments}
+        chosen = {"--name": given.name, "--status": given.status, "--begin": given.begin or given.end}
+        missing = [it for it in known if chosen[it] is None and self._column(None, known[it]) is None]
+        if len(missing) > 1:
+            options = listed([f"{it} COLUMN" for it in missing])
+            columns = listed([shown(name) for name in self.head]) or "none"
+            what = listed([ROLES[it] for it in missing])
+            raise Refused(f"{self.path}:1: no known column has the {what} of an attempt: {options} name them; the "
+                          f"columns are {columns}")
+
     def _find_columns(self, first):
         """Finds the columns. `first` has the cells of the first row."""
         given = self.given
-        self.request = self._column(given.name, REQUESTS, "--name")
-        self.status = self._column(given.status, STATUSES, "--status", [self.request.number])
+        names = [given.name] if given.name is None or given.name in self.head else given.name.split(",")
+        self.request = [self._column(name and name.strip(), REQUESTS, "--name") for name in names]
+        own = [column.number for column in self.request]
+        self.status = self._column(given.status, STATUSES, "--status", own)
         self.begin = self._column(given.begin, BEGINS, given.begin and "--begin")
         self.end = self._column(given.end, ENDS, given.end and "--end")
         self.length = self._column(given.time, LENGTHS, given.time and "--time")
@@ -150,21 +200,27 @@ class Reader:
             self.begin = stamp
         self.place = None
         if given.endpoint is not None:
-            self.place = self._column(None, ENDPOINTS, "--endpoint", [self.request.number]).number
+            self.place = self._column(None, ENDPOINTS, "--endpoint", own).number
+        self.is_shared = len(own) == 1 and plain_name(self.head[own[0]])[0] in SHARED
+        known = PARTS | {"name"} if self.is_shared else PARTS
+        self.parts = [number for number, name in enumerate(self.head) if len(own) == 1 and number not in own
+                      and plain_name(name)[0].removeprefix("attributes_") in known]
+        # The endpoints with their numbers, and of each request the row and the endpoint of its first attempt.
+        self.endpoints, self.firsts = {}, array.array("Q")
         self.has_moments = self.begin is not None or self.end is not None
         self.has_lengths = self.length is not None or None not in (self.begin, self.end)
 
     def _take(self, rows, notes, progress):
-        unit, known = self.given.unit, {}
+        unit, found = self.given.unit, {}
         begin, end = (column and Moments(column, unit, notes) for column in (self.begin, self.end))
         length = None if None not in (begin, end) else self.length and Lengths(self.length, unit)
         status = Statuses(self.status, self.given.errors_from, notes)
         for row, cells in rows:
             if self.place is not None and cells[self.place].strip() != self.given.endpoint:
+                texts = ((it, cells[it.column.number].strip()) for it in (begin, end) if it)
+                self.latest = max([self.latest, *(it(row, text) for it, text in texts if text)])
                 continue
-            name = cells[self.request.number].strip()
-            if not name:
-                raise self.request.refused(row, "this attempt has no request; --name COLUMN names another column")
+            self.requested.append(self._number_of(row, cells, found))
             took = length and length(row, cells[self.length.number].strip())
             if begin:
                 begun = begin(row, cells[self.begin.number].strip())
@@ -173,16 +229,59 @@ class Reader:
                     raise self.end.refused(row, "this attempt ends before it begins")
             else:
                 begun = end(row, cells[self.end.number].strip()) - (took or 0) if end else 0
-            self.names.append(known.setdefault(name, name))
+            if begun < -MOST_NANOSECONDS:
+                raise self.end.refused(row, "this attempt begins before the year 1678")
             self.begins.append(begun)
             self.lengths.append(took)
             self.statuses.append(status(row, cells[self.status.number].strip()))
             self.rows.append(row)
+            self.marks.append(hash(tuple(cells)))
             if not len(self.rows) % _ROWS:
                 progress.add(_ROWS)
         forms = [("begin", self.begin, begin), ("end", self.end, end), ("length", self.length, length)]
         parts = [f"{word} {column.name} ({it.form or 'no row'})" for word, column, it in forms if it]
-        self.told = ", ".join([f"request {self.request.name}", *parts, f"status {self.status.name}"])
+        request = " and ".join(column.name for column in self.request)
+        if self.is_shared and self.parts:
+            request += f" with {', '.join(self.head[it] for it in self.parts)}"
+        self.told = ", ".join([f"request {request}", *parts, f"status {self.status.name}"])
+        self.names = self._names(found)
+
+    def _number_of(self, row, cells, found):
+        """The number of a row's request. `found` has the requests: their names, each with the number of its endpoint if
+        a name may have several."""
+        texts = [cells[column.number].strip() for column in self.request]
+        if not texts[0]:
+            raise self.request[0].refused(row, "this attempt has no request; --name COLUMN names another column")
+        name, endpoint = texts[0] if len(texts) == 1 else tuple(texts), 0
+        if self.parts:
+            endpoint = tuple([cells[it].strip() for it in self.parts])
+            endpoint = self.endpoints.setdefault(endpoint, len(self.endpoints))
+        number = found.setdefault((name, endpoint) if self.is_shared else name, len(found))
+        if number == len(self.firsts):
+            self.firsts.append((row << 32) + endpoint)
+        elif self.firsts[number] & 0xFFFFFFFF != endpoint:
+            raise self._of_several(name, row, endpoint, self.firsts[number])
+        return number
+
+    def _of_several(self, name, row, endpoint, first):
+        """The error of rows of one request with two endpoints."""
+        ends = list(self.endpoints)
+        at, here, there = next(it for it in zip(self.parts, ends[endpoint], ends[first & 0xFFFFFFFF]) if it[1] != it[2])
+        return Refused(f'{self.path}:{self.word}{row}: request {shown(name)}: column {shown(self.head[at])} has '
+                       f'"{shown(here)}", and "{shown(there)}" in {self.word or "row "}{first >> 32}: --endpoint NAME '
+                       f"takes the attempts of one, --name {shown(self.request[0].name)},{shown(self.head[at])} "
+                       "makes each a request")
+
+    def _names(self, found):
+        """The names of the requests, with what differs between the endpoints of those with one name."""
+        if not self.is_shared:
+            return [it if isinstance(it, str) else " ".join(it) for it in found]
+        ends, values = list(self.endpoints) or [()], collections.defaultdict(lambda: [set() for _ in self.parts])
+        for name, endpoint in found:
+            for seen, value in zip(values[name], ends[endpoint]):
+                seen.add(value)
+        return [" ".join([name, *(it for it, seen in zip(ends[endpoint], values[name]) if len(seen) > 1)])
+                for name, endpoint in found]
 
     def requests(self):
         """Each request with its attempts, in the order of their begins if the log has moments, else of the rows."""
@@ -190,11 +289,11 @@ class Reader:
         if self.has_moments:
             order = sorted(order, key=self.begins.__getitem__)
         for at in order:
-            first.setdefault(self.names[at], len(first))
-        order = sorted(order, key=lambda at: first[self.names[at]])
-        for name, places in itertools.groupby(order, self.names.__getitem__):
-            yield name, [Call(self.begins[at] if self.has_moments else None, self.lengths[at], *self.statuses[at],
-                              self.rows[at]) for at in places]
+            first.setdefault(self.requested[at], len(first))
+        order = sorted(order, key=lambda at: first[self.requested[at]])
+        for number, places in itertools.groupby(order, self.requested.__getitem__):
+            yield self.names[number], [Call(self.begins[at] if self.has_moments else None, self.lengths[at],
+                                            *self.statuses[at], self.rows[at], self.marks[at]) for at in places]
 
 
 def _rows(path, data):
@@ -206,6 +305,8 @@ def _rows(path, data):
     if data.startswith((b"\xff\xfe", b"\xfe\xff")) or b"\0" in data[:1000]:
         raise Refused(f"{path}:1: the text is UTF-16 or no text: iconv -f utf-16 -t utf-8 makes it UTF-8")
     begin = 3 if data.startswith(b"\xef\xbb\xbf") else 0
+    if re.compile(rb'\[[0-9]{4}-[^]\n]*\] "').match(data, begin):
+        return _envoy_rows(path, data[begin:]), ""
     if re.compile(rb"\s*[\[{]").match(data, begin):
         return _json_rows(path, data[begin:])
     return _csv_rows(path, data, begin), ""
@@ -246,6 +347,17 @@ def _csv_rows(path, data, begin):
         raise Refused(f"{path}:{rows.line_num}: not CSV: {fault}") from None
 
 
+def _envoy_rows(path, data):
+    """The number and the cells of each line of Envoy's access log, the names of the columns first."""
+    yield 1, [*_ENVOY.groupindex]
+    for number, line in enumerate(io.TextIOWrapper(io.BytesIO(data), "utf-8"), 1):
+        if found := _ENVOY.match(line):
+            yield number, ["" if cell == "-" else cell for cell in found.groups()]
+        elif line.strip():
+            raise Refused(f"{path}:{number}: not in the usual form of Envoy's access log: its JSON form, with the keys "
+                          "start_time, request_id, method, path, response_code and duration, can be read")
+
+
 def _json_documents(path, data, is_lines):
     """The documents of a JSON text, one or one a line, each with the number of its line. Numbers are texts."""
     for at, piece in enumerate(io.BytesIO(data) if is_lines else [data], 1):
@@ -282,8 +394,11 @@ def _json_rows(path, data):
             if is_lines and isinstance(document, dict):
                 head.update((name, "") for name, _ in _pairs(document))
             yield document
-    if spans := spans_in(taken()):
+    if spans := spans_in(path, taken()):
         items, word = functools.partial(enumerate, spans, 1), "span "
+    elif export := _export_of(next(documents())[1]):
+        raise Refused(f"{path}:1: this is an export of {export}: jq -c '{_EXPORTS[export][1]}' makes rows of it if its "
+                      "lines are JSON, and - reads what that prints")
     elif is_lines:
         items, word = documents, ""
     else:
@@ -295,6 +410,17 @@ def _json_rows(path, data):
         head = dict.fromkeys(itertools.chain.from_iterable(_flat(path, word, *it) for it in items()), "")
     rows = ((number, list((head | _flat(path, word, number, item)).values())) for number, item in items())
     return itertools.chain([(1, list(head))], rows), word
+
+
+def _export_of(document):
+    """The system whose export a document is, or None."""
+    def has(keys):
+        try:
+            functools.reduce(operator.getitem, keys, document)
+        except (LookupError, TypeError):
+            return False
+        return True
+    return next((name for name, (paths, _) in _EXPORTS.items() if all(map(has, paths))), None)
 
 
 def _flat(path, word, number, item):
@@ -319,24 +445,27 @@ def _items(value, *names):
     return found if isinstance(found, list) else []
 
 
-def spans_in(documents):
+def spans_in(path, documents):
     """The attempts in documents of OpenTelemetry or Jaeger, as objects with a name for each column: the spans of the
     kind client, else those without spans below."""
     spans = [span for document in documents for span in _spans_of(document)]
+    for name, span in itertools.product(_SPAN_TEXTS, spans):
+        if not isinstance(span.get(name), str | None):
+            raise Refused(f"{path}: a span has {name} {shown(json.dumps(span[name]))}, which is not a text")
     parents = {span.get("parentSpanId") for span in spans}
     of_clients = [span for span in spans if span.get("kind") in _CLIENT]
     attempts = of_clients or [span for span in spans if span.get("spanId") not in parents - {None, ""}]
-    names, traces = collections.defaultdict(set), collections.defaultdict(set)
+    traces = collections.defaultdict(set)
     for span in attempts:
-        names[_parent(span)].add(span.get("name"))
         traces[_parent(span)].add(span.get("traceId"))
 
     def request(span):
-        """The parent, with its trace if several have such a parent, and with the span's name if it has several."""
+        """The parent, with its trace if several have such a parent."""
         parent = _parent(span)
-        trace = f"{span.get('traceId')} " if len(traces[parent]) > 1 else ""
-        return parent and trace + parent + (f" {span.get('name')}" if len(names[parent]) > 1 else "")
-    return [{"parent": request(span), "trace_id": span.get("traceId", ""), "name": span.get("name", ""),
+        return parent and (f"{span.get('traceId')} " if len(traces[parent]) > 1 else "") + parent
+    return [{"parent": request(span), "trace_id": span.get("traceId", ""), "span_id": span.get("spanId", ""),
+             "name": span.get("name", ""),
+             **{name: text for name, text in _attributes(span).items() if name.replace(".", "_") in PARTS},
              "start_time_unix_nano": span.get("startTimeUnixNano", ""),
              "end_time_unix_nano": span.get("endTimeUnixNano", ""), "status": _span_status(span)} for span in attempts]
 
@@ -360,7 +489,7 @@ def _is_object(value):
 def _of_jaeger(span):
     """A span of Jaeger's older form, whose times are microseconds. Its parent is the first reference CHILD_OF within
     its trace, else the first other one."""
-    tags = {it.get("key"): it.get("value") for it in filter(_is_object, _items(span, "tags"))}
+    tags = {str(it.get("key")): it.get("value") for it in filter(_is_object, _items(span, "tags"))}
     above = [it for it in filter(_is_object, _items(span, "references")) if it.get("traceID") == span["traceID"]]
     parent = min(above, key=lambda it: it.get("refType") != "CHILD_OF", default={"spanID": span.get("parentSpanID")})
     times = [str(span.get(name)) for name in ["startTime", "duration"]]
@@ -378,15 +507,20 @@ def _parent(span):
     return str(span.get("parentSpanId") or span.get("traceId") or "")
 
 
+def _attributes(span):
+    """The attributes of a span, as texts."""
+    found = ((it.get("key"), it.get("value")) for it in filter(_is_object, _items(span, "attributes")))
+    return {key: str(next(iter(value.values()))) for key, value in found
+            if isinstance(key, str) and isinstance(value, dict) and value}
+
+
 def _span_status(span):
     """The status as a text: that of HTTP or gRPC, and whether the span has an error."""
     given = span.get("status")
     is_error = isinstance(given, dict) and given.get("code") in _ERROR
-    values = {item.get("key"): item.get("value") for item in filter(_is_object, _items(span, "attributes"))}
+    values = _attributes(span)
     for name in _SPAN_CODES:
-        value = values.get(name)
-        if isinstance(value, dict) and value:
-            code = str(next(iter(value.values())))
+        if (code := values.get(name)) is not None:
             is_grpc = name == _SPAN_CODES[2]
             return f"error {code}" if is_error or (is_grpc and code != "0") else f"ok {code}" if is_grpc else code
     return "error" if is_error else "ok"

@@ -1,39 +1,122 @@
 """How a command reads, writes and ends: what each exit status means, rejected input, and failures of the machine."""
 import argparse
+import codecs
 import contextlib
 import errno
+import functools
 import io
 import itertools
+import json
 import os
 import pathlib
 import re
+import secrets
 import shutil
 import signal
 import sys
+import time
+import traceback
 
 from zsched_tools.hints import near
-from zsched_tools.words import WIDTH, shown, wrapped
+from zsched_tools.words import WIDTH, one_line, shown, wrapped
 
 # The exit statuses of all commands. 0 is yes. A process that SIGPIPE ends has the status 141 in a shell.
 NO, REFUSED, FAILED, INTERRUPTED = 1, 2, 3, 130
 MOST_COLUMNS = 120
+# The limits of a file without another one: its bytes, and the seconds until a pipe has a writer, and of work.
+MOST_BYTES, PATIENCE, WORK = 1 << 31, 10, 30
+_PIECE = 1 << 20
+# Options that had another name before.
+_RENAMED = {"--require-most": "--require-attempts", "--require-total": "--require-waits", "--max-total": "--max-end"}
 _OF_OUTPUT = (errno.ENOSPC, errno.EFBIG, errno.EDQUOT)
+ESC, FAULT = "\x1b[", "a fault of this tool"
 _colored, _quiet = ["auto"], [False]
+# The timer and the end of each limit that is running, those around others first.
+_ends = []
 _CODES = {"bad": "1;31", "good": "32", "help": "36", "faint": "2", "strong": "1"}
 _HERE = pathlib.Path(__file__).resolve()
+# Is around what a tool itself tells a terminal or a CI. No input can have it.
+_OWN = secrets.token_hex(16)
+
+
+# What an encoding doesn't have is written as JSON's escape too.
+codecs.register_error("json", lambda fault: (json.dumps(fault.object[fault.start:fault.end])[1:-1], fault.end))
 
 
 class Refused(Exception):
-    """Input or a program that is rejected. The text has the place: a file, a line."""
+    """Input or a program that is rejected. The lines have the place: a file, a line."""
+
+    def __str__(self):
+        return "\n".join(map(str, self.args))
+
+
+class Border:
+    """Standard output or standard error, through which all texts go. No text of an input is more than a text there:
+    each is on one line, has no letter that isn't printable, and starts no command of a CI."""
+
+    def __init__(self, stream):
+        self.stream, self.is_begin = stream, True
+        if isinstance(stream, io.TextIOWrapper):
+            stream.reconfigure(errors="json")
+
+    def __getattr__(self, name):
+        return getattr(self.stream, name)
+
+    def write(self, text):
+        """Writes a text in one line, or the end of a line alone, as `print` does."""
+        if text == "\n":
+            self.is_begin = True
+            return self.stream.write(text)
+        pieces = text.split(_OWN)
+        for number, piece in enumerate(pieces[::2]):
+            pieces[2 * number] = one_line(piece, self.is_begin)
+            self.is_begin = self.is_begin and not piece.strip(" ")
+        return self.stream.write("".join(pieces))
+
+    def writelines(self, pieces):
+        """Writes the pieces of a document, whose ends of lines are its own."""
+        for it in (it for piece in pieces for it in piece.splitlines(True)):
+            self.write(it.removesuffix("\n"))
+            if it.endswith("\n"):
+                self.write("\n")
+
+
+def own(text):
+    """What a tool itself tells a terminal or a CI, within a text that it prints."""
+    return f"{_OWN}{text}{_OWN}"
+
+
+def annotation(word, text, **properties):
+    """Prints an annotation that GitHub shows: error, warning or notice, at a file and a line."""
+    escapes = {letter: f"%{ord(letter):02X}" for letter in "%\r\n"}
+    of_property = str.maketrans(escapes | {letter: f"%{ord(letter):02X}" for letter in ":,"})
+    given = ",".join(f"{name}={one_line(str(it).translate(of_property))}" for name, it in properties.items())
+    print(own(f"::{word} {given}::{one_line(text.translate(str.maketrans(escapes)), False)}"))
+
+
+@contextlib.contextmanager
+def bordered():
+    """Makes a Border of standard output, and one of standard error."""
+    before = sys.stdout, sys.stderr
+    sys.stdout, sys.stderr = (it if it is None or isinstance(it, Border) else Border(it) for it in before)
+    try:
+        yield
+    finally:
+        sys.stdout, sys.stderr = before
 
 
 def run(tool, work):
     """Does a command's work and returns its exit status: that of the work (None is 0), 2 if the input is rejected or a
-    program isn't there, 3 if reading, writing or a program failed, 130 if the user interrupted it. Each of these has
-    one line on standard error. If the reader of standard output closes it, the process ends by SIGPIPE, as `yes`.
-    Ctrl-C is an exception in the work, so that it can clean up."""
+    program isn't there, 3 if reading, writing or a program failed, or by a fault of the tool, 130 if the user
+    interrupted it. Each of these has one line on standard error. If the reader of standard output closes it, the
+    process ends by SIGPIPE, as `yes`. Ctrl-C is an exception in the work, so that it can clean up."""
+    with bordered():
+        return _status_of(tool, work)
+
+
+def _status_of(tool, work):
     if sys.stdout is None:
-        return _told(tool, "standard output is closed", FAILED)
+        return _told(tool, FAILED, "standard output is closed")
     before = signal.getsignal(signal.SIGINT)
     try:
         try:
@@ -44,9 +127,9 @@ def run(tool, work):
         finally:
             signal.signal(signal.SIGINT, before)
     except Refused as refused:
-        return _told(tool, refused, REFUSED)
+        return _told(tool, REFUSED, *refused.args)
     except RecursionError:
-        return _told(tool, "the input is nested too deeply", REFUSED)
+        return _told(tool, REFUSED, "the input is nested too deeply")
     except BrokenPipeError:
         sys.stderr.flush()
         _drop_output()
@@ -55,11 +138,15 @@ def run(tool, work):
     except OSError as failure:
         _drop_output()
         place = failure.filename or ("standard output" if failure.errno in _OF_OUTPUT else "")
-        return _told(tool, f"{shown(str(place), WIDTH)}{': ' if place else ''}{failure.strerror or failure}", FAILED)
+        return _told(tool, FAILED, f"{shown(str(place), WIDTH)}{': ' if place else ''}{failure.strerror or failure}")
     except MemoryError:
-        return _told(tool, "out of memory", FAILED)
+        return _told(tool, FAILED, "out of memory")
     except KeyboardInterrupt:
-        return _told(tool, "interrupted", INTERRUPTED)
+        return _told(tool, INTERRUPTED, "interrupted")
+    except Exception as fault:
+        _drop_output()
+        trace = "".join(traceback.format_exception(fault)).splitlines() if os.environ.get("ZSCHED_TRACE") else []
+        return _told(tool, FAILED, f"{FAULT}: {fault!r}; ZSCHED_TRACE=1 shows where", *trace)
 
 
 def _drop_output():
@@ -87,9 +174,11 @@ class Formatter(argparse.RawDescriptionHelpFormatter):
 
 
 class Short(argparse.Action):
-    """The option that prints the first paragraph and the options."""
+    """The option that prints the first example, the first paragraph and the options."""
 
     def __call__(self, parser, *_):
+        example = re.search(r"^ +(?:\$ )?(zsched[- ].*)", parser.description, re.M)
+        print(*[f"for example: {example[1]}\n"] if example else [])
         parser.description, parser.epilog = parser.description.partition("\n\n")[0], "--help says more."
         parser.print_help()
         parser.exit()
@@ -100,7 +189,7 @@ class Parser(argparse.ArgumentParser):
 
     def __init__(self, **texts):
         super().__init__(formatter_class=Formatter, add_help=False, **texts)
-        self.add_argument("-h", action=Short, nargs=0, help="show the options")
+        self.add_argument("-h", action=Short, nargs=0, help="show an example and the options")
         self.add_argument("--help", action="help", help="show all that is to say, with examples")
 
     def parse_known_args(self, args=None, namespace=None):
@@ -109,8 +198,13 @@ class Parser(argparse.ArgumentParser):
         for word in itertools.takewhile(lambda it: it != "--" and (it[:1] == "-" or not has_parts), args):
             option = re.match(r"--[a-z][a-z-]*(?==|\Z)|-[A-Za-z](?=[A-Za-z]*\Z)|", word)[0]
             if option and not any(it.startswith(option) for it in self._option_string_actions):
-                self.error(f"there is no option {option}{meant(option, self._option_string_actions)}")
+                meaning = meant(_RENAMED.get(option, option), self._option_string_actions)
+                self.error(f"there is no option {option}{meaning}")
         return super().parse_known_args(args, namespace)
+
+    def _print_message(self, message, file=None):
+        """Prints a help or a version, whose ends of lines are its own."""
+        (file or sys.stderr).writelines([message or ""])
 
     def error(self, message):
         """Exits with status 2, after what is wrong and how the command is used."""
@@ -118,8 +212,10 @@ class Parser(argparse.ArgumentParser):
             message += meant(found[1], re.findall(r"[\w-]+", found[2]))
         formatter = Formatter(self.prog)
         formatter.add_usage(None, [it for it in self._actions if not it.option_strings], [])
-        usage = formatter.format_help().rstrip()
-        self.exit(REFUSED, f"{self.prog}: {message}\n{usage}; {self.prog} -h lists the options\n")
+        usage = formatter.format_help().rstrip().split("\n")
+        print(f"{self.prog}: {message}", *usage[:-1], f"{usage[-1]}; {self.prog} -h lists the options", sep="\n",
+              file=sys.stderr)
+        self.exit(REFUSED)
 
 
 def meant(word, words):
@@ -165,8 +261,7 @@ def add_programs(parser, has_bounds=False):
 def script(parser, work):
     """Runs a script whose command line the parser reads. Returns its exit status."""
     add_version(parser)
-    given = parser.parse_args()
-    return run(parser.prog, lambda: work(given))
+    return run(parser.prog, lambda: work(parser.parse_args()))
 
 
 def main(arguments, work):
@@ -174,15 +269,18 @@ def main(arguments, work):
     version are written as in `run`."""
     def started():
         parser, text = arguments(), io.StringIO()
-        try:
-            with contextlib.redirect_stdout(text):
-                given = parser.parse_args()
-        except SystemExit as ended:
-            if ended.code:
-                raise
-            return run(parser.prog, lambda: sys.stdout.write(text.getvalue()) and None)
-        _colored[0], _quiet[0] = given.color, given.quiet
-        return run(parser.prog, lambda: work(given))
+
+        def parsed():
+            try:
+                with contextlib.redirect_stdout(text):
+                    given = parser.parse_args()
+            except SystemExit as ended:
+                if ended.code:
+                    raise
+                return sys.stdout.stream.write(text.getvalue()) and None
+            _colored[0], _quiet[0] = given.color, given.quiet
+            return work(given)
+        return run(parser.prog, parsed)
     return started
 
 
@@ -195,7 +293,7 @@ class Paint:
 
     def __call__(self, style, text):
         """The text in a style: bad, good, help, faint or strong."""
-        return f"\x1b[{_CODES[style]}m{text}\x1b[0m" if self.is_on and text else text
+        return f"{own(f'{ESC}{_CODES[style]}m')}{text}{own(f'{ESC}0m')}" if self.is_on and text else text
 
 
 class Part(Parser):
@@ -263,24 +361,61 @@ def standard_input():
     return sys.stdin.buffer
 
 
-def read(path, most=-1):
-    """The bytes of a file, at most `most`; - is standard input."""
-    if path == "-":
-        with naming("standard input"):
-            return standard_input().read(most)
-    with naming(path), open(path, "rb") as file:
-        return file.read(most)
+def read(path, most=None):
+    """The bytes of a file, at most `most`; - is standard input. Without `most` a file that has more than MOST_BYTES is
+    rejected."""
+    name, data = "standard input" if path == "-" else path, io.BytesIO()
+    with naming(name), contextlib.nullcontext(standard_input()) if path == "-" else opened(path) as file:
+        left = MOST_BYTES + 1 if most is None else most
+        while left > 0 and (piece := file.read(min(left, _PIECE))):
+            left -= data.write(piece)
+    if most is None and left == 0:
+        raise Refused(f"{name}: the file has more than {MOST_BYTES} bytes: cut it")
+    return data.getvalue()
+
+
+@contextlib.contextmanager
+def limited(timer, seconds, what):
+    """Ends what is inside by Refused, with these words, after some seconds: of time, or of the processor's. A limit
+    around this one goes on after it."""
+    def end(*_):
+        raise Refused(what)
+    number, clock = {signal.ITIMER_REAL: (signal.SIGALRM, time.monotonic),
+                     signal.ITIMER_VIRTUAL: (signal.SIGVTALRM, time.process_time)}[timer]
+    before = signal.signal(number, end)
+    _ends.append((timer, clock() + seconds))
+    signal.setitimer(timer, seconds)
+    try:
+        yield
+    finally:
+        signal.setitimer(timer, 0)
+        signal.signal(number, before)
+        _ends.pop()
+        if around := [it - clock() for other, it in _ends if other == timer]:
+            signal.setitimer(timer, around[-1]) if around[-1] > 0 else before()
+
+
+def opened(path):
+    """A file, opened to be read."""
+    with limited(signal.ITIMER_REAL, PATIENCE, f"{path}: no program writes into this pipe"):
+        try:
+            return open(path, "rb")
+        except ValueError:
+            raise Refused(f"{path}: no file has such a name") from None
+
+
+def budget(path):
+    """The limit of work for a file of policies, whose reader is inside."""
+    return limited(signal.ITIMER_VIRTUAL, WORK, f"{path}: the file needs more than {WORK} s of the processor to be "
+                   "read: cut out the part with the policies")
 
 
 def write(path, data):
-    """Writes a text or bytes to a file; - is standard output."""
-    data = data.encode() if isinstance(data, str) else data
+    """Writes a text or bytes to a file, or a text to standard output, which is -."""
     if path == "-":
-        sys.stdout.flush()
-        sys.stdout.buffer.write(data)
-        return
+        return sys.stdout.writelines([data])
     with naming(path), open(path, "wb") as file:
-        file.write(data)
+        file.write(data.encode() if isinstance(data, str) else data)
 
 
 @contextlib.contextmanager
@@ -294,9 +429,10 @@ def naming(path):
         raise
 
 
-def _told(tool, text, status):
-    """Writes why a command ends. Returns its status, also if standard error can't be written."""
+def _told(tool, status, first, *more):
+    """Writes why a command ends, in lines. Returns its status, also if standard error can't be written."""
     if sys.stderr is not None:
+        paint = functools.partial(Paint(_colored[0], sys.stderr), "bad")
         with contextlib.suppress(OSError):
-            print(Paint(_colored[0], sys.stderr)("bad", f"{tool}: {text}"), file=sys.stderr)
+            print(*map(paint, [f"{tool}: {first}", *more]), sep="\n", file=sys.stderr)
     return status

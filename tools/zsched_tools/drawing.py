@@ -4,8 +4,11 @@ import itertools
 import math
 from typing import NamedTuple
 
-from zsched_tools.words import DAY, HOUR, MINUTE, duration
+from zsched_tools.command import Refused
+from zsched_tools.words import DAY, HOUR, MINUTE, duration, one_line
 
+# In pixels: the width of a picture that is a file, and the sizes of letters.
+WIDTH, TITLE_SIZE, SMALL_SIZE = 1240, 16, 11
 # Widths of DejaVu Sans, in parts of the text's size. Verdana's are nearly the same, those of other fonts smaller.
 _WIDTHS = {0.33: "ijlIJ .,:;'|·", 0.42: "frt-()[]/", 0.56: "cszLF_", 0.8: "wDGHNOQU+", 1.0: "mMW%@…"}
 _WIDTH_OF = {letter: width for width, letters in _WIDTHS.items() for letter in letters}
@@ -13,6 +16,26 @@ NEAREST_LABELS = 90
 LONGEST_LABEL = 12
 _STEPS = [1, 2, 5, 10, 20, 50, 100, 200, 500, *(unit * it for unit in [1000, MINUTE] for it in [1, 2, 5, 10, 15, 30]),
           *(HOUR * it for it in [1, 2, 3, 6, 12])]
+
+STYLE = """svg{color-scheme:light dark}text{font-family:"DejaVu Sans",Verdana,Geneva,sans-serif;fill:#1f2933}
+.title{font-size:16px;font-weight:bold}.large{font-size:13px}.small,.axis,.legend,.mode,.wide{font-size:11px}
+.axis,.legend,.mode,.wide{fill:#616e7c}
+.page{fill:#fff}.band{fill:#f5f7fa}.grid{stroke:#d9dee4}.edge{stroke:#7b8794}
+.horizon{stroke:#52606d;stroke-dasharray:6 3 1 3}
+.ok{fill:#0a8f6a}.err{fill:#8f1d3f}.good{fill:#087456}.bad{fill:#b8304a}.open{fill:#616e7c}
+.running{fill:url(#running);stroke:#8a6fc1}.hatch{fill:#e2dbf0}.line{stroke:#8a6fc1;stroke-width:3}
+.many{fill:url(#many)}.stripe{fill:#fff;fill-opacity:.55}
+.wait,.arrow{fill:none;stroke:#7b8794}.wait{stroke-dasharray:2 3}
+.sign{fill:none;stroke:#fff;stroke-width:1.6}.hole{fill:#fff}
+@media(prefers-color-scheme:dark){text{fill:#e4e7eb}.axis,.legend,.mode,.wide{fill:#a3afbb}
+.page,.hole{fill:#14191f}.band{fill:#1d252e}.grid{stroke:#3e4c59}.edge,.horizon,.wait,.arrow{stroke:#9aa5b1}
+.ok{fill:#62dcb6}.err{fill:#cf4a60}.good{fill:#37c29b}.bad{fill:#f0808f}.open{fill:#a3afbb}
+.hatch{fill:#2f2844}.line{stroke:#a48cd8}.running{stroke:#a48cd8}.stripe{fill:#14191f}.sign{stroke:#14191f}}"""
+
+PATTERNS = ('<pattern id="running" width="6" height="6" patternUnits="userSpaceOnUse" patternTransform="rotate(45)">'
+            '<rect class="hatch" width="6" height="6"/><path class="line" d="M0 0V6"/></pattern>'
+            '<pattern id="many" width="3" height="3" patternUnits="userSpaceOnUse">'
+            '<rect class="stripe" width="1" height="3"/></pattern>')
 
 
 def text_width(text, size):
@@ -24,6 +47,8 @@ def cut_text(text, size, room):
     """The text, or as much of its beginning as there is room for, with an ellipsis."""
     if text_width(text, size) <= room:
         return text
+    # No letter is narrower than a pixel, and a text of a policy has 65,536.
+    text = text[:max(0, int(room))]
     while text and text_width(text + "…", size) > room:
         text = text[:-1]
     return text + "…"
@@ -39,7 +64,7 @@ def opening(width, height, label, style, is_file=True, patterns=""):
     window scrolls, letters stay readable."""
     kind, height = 'xmlns="http://www.w3.org/2000/svg" ' if is_file else "", place(height)
     yield (f'<svg {kind}width="{width}" height="{height}" viewBox="0 0 {width} {height}" role="img" '
-           f'aria-label="{html.escape(label)}">')
+           f'aria-label="{escaped(label)}">')
     yield f"<style>{style}</style>" + (f"\n<defs>{patterns}</defs>" if patterns else "")
     yield f'<rect class="page" width="{width}" height="{height}"/>'
 
@@ -60,12 +85,17 @@ def text(left, base, words, style, anchor="start", title=None):
     """A text on its base line; `anchor` says which end of it, or its middle, is at `left`."""
     anchored = "" if anchor == "start" else f' text-anchor="{anchor}"'
     titles = titled(title) if title else ""
-    return f'<text class="{style}" x="{place(left)}" y="{place(base)}"{anchored}>{html.escape(words)}{titles}</text>'
+    return f'<text class="{style}" x="{place(left)}" y="{place(base)}"{anchored}>{escaped(words)}{titles}</text>'
 
 
 def titled(words):
     """The text that is shown while the pointer rests on an element."""
-    return f"<title>{html.escape(words)}</title>"
+    return f"<title>{escaped(words)}</title>"
+
+
+def escaped(words):
+    """A text within a picture or a page: in one line, and without marks."""
+    return html.escape(one_line(words))
 
 
 class View(NamedTuple):
@@ -73,6 +103,14 @@ class View(NamedTuple):
     first: int | None = None
     last: int | None = None
     is_log: bool = False
+
+
+def view_within(first, last, view):
+    """The moments of a view; `first` and `last` are the defaults."""
+    first, last = first if view.first is None else view.first, last if view.last is None else view.last
+    if first >= last and view != View(is_log=view.is_log):
+        raise Refused(f"has nothing from {first} ms to {last} ms: --from must be before --to")
+    return first, last
 
 
 def round_numbers(unit=1):

@@ -7,7 +7,7 @@ from zsched_tools.hints import TABLE, said
 
 # How many milliseconds a unit has.
 UNITS = {unit: Fraction(length, 10**6) for length, units in TABLE["nanoseconds"] for unit in units.split()}
-_PART = re.compile(r"\s*([0-9]{1,30}(?:\.[0-9]{1,30})?|\.[0-9]{1,9})[ .]*([A-Za-zµ]+)\s*")
+_PART = re.compile(r"([0-9]{1,30}(?:\.[0-9]{1,30})?|\.[0-9]{1,9})[ .]*+([A-Za-zµ]+)")
 
 
 def exact_milliseconds(text):

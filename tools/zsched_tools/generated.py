@@ -2,8 +2,6 @@
 import argparse
 import re
 
-from zsched_tools.command import version
-
 # The names of arguments that are files or folders.
 FILES = {"FILE", "PATH", "LOG", "PLAN", "PLAN.json", "SCENARIO.json", "MANIFEST | PART"}
 FOLDERS = {"FOLDER", "DIR"}
@@ -25,6 +23,11 @@ def _parsers(parser):
 
 def _arguments(parser):
     return [it for it in parser._actions if not it.option_strings and not isinstance(it, argparse._SubParsersAction)]
+
+
+def _version(parser):
+    """The version that the option --version prints."""
+    return next(it for it in parser._actions if isinstance(it, argparse._VersionAction)).version.split(" ")[-1]
 
 
 def _options(parser): return [it for it in parser._actions if it.option_strings]
@@ -144,7 +147,7 @@ def man(parser):
     first = re.match(r"(.*?)(?:\.(?:\s|$)|:\n)", about, re.DOTALL)[1].replace("\n", " ")
     rest, *status = re.split(r"^exit status[:,] ", parser.epilog or "", flags=re.MULTILINE | re.IGNORECASE)
     formatter.add_usage(None, parser._actions, parser._mutually_exclusive_groups, prefix="")
-    yield from [f'.TH {parser.prog.upper()} 1 "" "zsched {version()}"', ".SH NAME",
+    yield from [f'.TH {parser.prog.upper()} 1 "" "zsched {_version(parser)}"', ".SH NAME",
                 f"{_roff(parser.prog)} \\- {_roff(first[0].lower() + first[1:])}",
                 ".SH SYNOPSIS", ".nf", _roff(formatter.format_help().strip()), ".fi", ".SH DESCRIPTION",
                 *_paragraphs(about, rest.strip())]

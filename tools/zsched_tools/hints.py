@@ -1,7 +1,9 @@
 """The texts of faults, which docs/play.html has too, and what the user may have meant: similar words, and names of ZIO
 that a plan spells differently."""
+import base64
 import difflib
 import functools
+import hashlib
 import json
 import pathlib
 import re
@@ -19,14 +21,18 @@ def page():
     return next(place for place in PAGES if place.is_file()).read_text(encoding="utf-8")
 
 
-def piece(name):
-    """The text of the script or the style of the page with this id."""
-    return re.search(rf'<(script|style)[^>]* id="{name}">\n(.*?)</\1>', page(), re.S)[2]
+def script_sources(text):
+    """The scripts that the policy of a page allows: those that its text has, by their hashes."""
+    found = re.findall(r"<script(?: id=[^>]*)?>(.*?)</script>", text, re.S)
+    hashes = [base64.b64encode(hashlib.sha256(it.encode()).digest()).decode() for it in found]
+    return " ".join(f"'sha256-{it}'" for it in hashes)
 
 
-# The texts of faults, and what they are about: one table for the tools and for docs/play.html, into which it is built.
-TEXTS = _HERE.with_name("texts.json").read_text(encoding="utf-8")
-TABLE = json.loads(TEXTS)
+# What is built into docs/play.html, by the ids of its elements: the texts of faults, and what they are about; and the
+# script and the style of pictures, which reports have too.
+PIECES = {name: _HERE.with_name(file).read_text(encoding="utf-8") for name, file in [
+    ("texts", "texts.json"), ("drawing", "drawing.js"), ("drawing-style", "drawing.css")]}
+TABLE = json.loads(PIECES["texts"])
 
 
 def said(name, **values):

@@ -253,7 +253,7 @@ def no_key(reading, at):
     if mark in "]},:":
         return _missing(reading, at, mark, "key")
     digits, word = re.compile(r"[0-9]+").match(text, at), _WORD.match(text, at)
-    before = re.compile(r"[0-9]+,[ ]?$").search(text, max(0, at - 40), at)
+    before = re.compile(r"(?<![0-9])[0-9]++,[ ]?$").search(text, max(0, at - 40), at)
     return choose(at, (mark in _QUOTES, 1, "these aren't JSON's quotes", 'write "'),
                   (digits and before, digits and len(digits[0]), "a number in two parts",
                    digits and before and f"write {before[0].rstrip(', ')}{shown(digits[0])}"),

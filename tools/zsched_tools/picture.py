@@ -1,43 +1,29 @@
 """A report as a picture: jobs from top to bottom, time from left to right. Its shapes are single attempts, blocks of
 many, and the marks of endings. Both shape and colour show an outcome: an attempt that succeeded is tall and round, one
 that failed is low and square."""
-from dataclasses import dataclass
+from dataclasses import dataclass, replace
 
 from zsched_tools import strip
-from zsched_tools.command import Refused
-from zsched_tools.drawing import (Scale, View, cut_text, labels, opening, path, place, rectangle, shown_moments, text,
-                                  text_width, titled)
+from zsched_tools.drawing import (PATTERNS, SMALL_SIZE, STYLE, TITLE_SIZE, WIDTH, Scale, View, cut_text, labels,
+                                  opening, path, place, rectangle, shown_moments, text, text_width, titled, view_within)
 from zsched_tools.reports import Attempt, Ending, Job
 from zsched_tools.words import duration, ending_text, plural, shown
 
 MOST_JOBS, LONGEST_RESULT = 200, 24
 # In pixels.
-WIDTH, MARGIN, AFTER_PLOT, WIDEST_NAME, WIDEST_VERDICT = 1240, 16, 34, 250, 380
-TITLE_SIZE, SMALL_SIZE, WAIT_SIZE = 16, 11, 11
-
-STYLE = """svg{color-scheme:light dark}text{font-family:"DejaVu Sans",Verdana,Geneva,sans-serif;fill:#1f2933}
-.title{font-size:16px;font-weight:bold}.large{font-size:13px}.small,.axis,.legend,.mode,.wide{font-size:11px}
-.axis,.legend,.mode,.wide{fill:#616e7c}
-.page{fill:#fff}.band{fill:#f5f7fa}.grid{stroke:#d9dee4}.edge{stroke:#7b8794}
-.horizon{stroke:#52606d;stroke-dasharray:6 3 1 3}
-.ok{fill:#0a8f6a}.err{fill:#8f1d3f}.good{fill:#087456}.bad{fill:#b8304a}.open{fill:#616e7c}
-.running{fill:url(#running);stroke:#8a6fc1}.hatch{fill:#e2dbf0}.line{stroke:#8a6fc1;stroke-width:3}
-.many{fill:url(#many)}.stripe{fill:#fff;fill-opacity:.55}
-.wait,.arrow{fill:none;stroke:#7b8794}.wait{stroke-dasharray:2 3}
-.sign{fill:none;stroke:#fff;stroke-width:1.6}.hole{fill:#fff}
-@media(prefers-color-scheme:dark){text{fill:#e4e7eb}.axis,.legend,.mode,.wide{fill:#a3afbb}
-.page,.hole{fill:#14191f}.band{fill:#1d252e}.grid{stroke:#3e4c59}.edge,.horizon,.wait,.arrow{stroke:#9aa5b1}
-.ok{fill:#62dcb6}.err{fill:#cf4a60}.good{fill:#37c29b}.bad{fill:#f0808f}.open{fill:#a3afbb}
-.hatch{fill:#2f2844}.line{stroke:#a48cd8}.running{stroke:#a48cd8}.stripe{fill:#14191f}.sign{stroke:#14191f}}"""
-
-PATTERNS = ('<pattern id="running" width="6" height="6" patternUnits="userSpaceOnUse" patternTransform="rotate(45)">'
-            '<rect class="hatch" width="6" height="6"/><path class="line" d="M0 0V6"/></pattern>'
-            '<pattern id="many" width="3" height="3" patternUnits="userSpaceOnUse">'
-            '<rect class="stripe" width="1" height="3"/></pattern>')
+MARGIN, AFTER_PLOT, WIDEST_NAME, WIDEST_VERDICT, WAIT_SIZE = 16, 34, 250, 380, 11
 # In pixels: an attempt of at least the width ALONE has a separate shape, and every shape is at least NARROWEST wide.
 # Narrow attempts that are nearer than NEAR share a block, up to the width BLOCK. A shape is cut for the next one, but
 # not below the width LEAST.
 ALONE, NARROWEST, NEAR, BLOCK, LEAST = 4.0, 3.0, 1.5, 12.0, 0.8
+# The end of a call that is proved has a whole line. The styles are those of draws and ends.
+END_STYLES = {"proved end": "proof"}
+MORE_STYLE = """
+.draws{fill:#8a6fc1;fill-opacity:.2}
+.proof{stroke:#087456;stroke-width:2}.claim{stroke:#b8304a;stroke-width:2;stroke-dasharray:5 3}
+@media(prefers-color-scheme:dark){.proof{stroke:#37c29b}.claim{stroke:#f0808f}}"""
+# In pixels: how far the name of a row is to the right for each layer over it.
+DEEPER = 14
 FAILED_HEIGHT = 0.56
 
 
@@ -83,7 +69,9 @@ def shape_title(shape, name):
         return (f"attempts {attempt.number} to {shape.last.number} of {name}: {attempt.begin}..{shape.last.end} ms, "
                 f"{shape.count - shape.failed} ok, {shape.failed} err")
     words = f"attempt {attempt.number} of {name}: {attempt.begin} ms .., still running at the horizon"
-    if attempt.end is not None:
+    if attempt.end is not None and attempt.outcome == "running":
+        words = f"attempt {attempt.number} of {name}: {attempt.begin}..{attempt.end} ms, cut by the call's limit"
+    elif attempt.end is not None:
         words = (f"attempt {attempt.number} of {name}: {attempt.begin}..{attempt.end} ms, {attempt.outcome} "
                  f"{attempt.value}; took {duration(attempt.end - attempt.begin)}")
     if attempt.waited is not None:
@@ -135,10 +123,26 @@ def mark(how, x, y, size):
 
 @dataclass(slots=True)
 class Row:
-    """A job with all its attempts."""
+    """A job with all its attempts. `limit` is the moment at which its call ends, `draws` has the first and the last
+    moment at which each attempt begins, whatever is drawn, `end` the latest end of the call and what says so, and
+    `depth` is the number of layers over it."""
     job: Job
     attempts: list
     ending: Ending
+    limit: int | None = None
+    draws: tuple = ()
+    end: tuple | None = None
+    depth: int = 0
+
+    def limited(self):
+        """The job up to the limit of its call, if it goes on then: an attempt that runs is cut."""
+        moment = self.limit
+        if moment is None or moment > self.ending.at or moment == self.ending.at and self.ending.how != "unfinished":
+            return self
+        attempts = [it for it in self.attempts if it.begin < moment]
+        if attempts and (attempts[-1].end is None or attempts[-1].end > moment):
+            attempts[-1] = replace(attempts[-1], end=moment, outcome="running", value=None, out=None)
+        return replace(self, attempts=attempts, ending=replace(self.ending, how="cut", value=None, out=None, at=moment))
 
     def verdict(self, base):
         """How the job ended, in words, and when, counted from a base."""
@@ -146,6 +150,8 @@ class Row:
         many = plural(len(self.attempts), "attempt") if self.attempts else "never began"
         if self.ending.how == "unfinished":
             return f"unfinished at {when} · {many}"
+        if self.ending.how == "cut":
+            return f"ended by the call's limit at {when} · {many}"
         return f"{ending_text(self.ending.how, self.ending.result(), LONGEST_RESULT)} · {many} · {when}"
 
 
@@ -158,7 +164,7 @@ class Layout:
         self.size = 13 if self.row >= 30 else SMALL_SIZE
         self.style = "large" if self.row >= 30 else "small"
         self.bar = self.row * 0.42
-        names = max([text_width(row.job.name, self.size) for row in rows], default=0)
+        names = max([text_width(row.job.name, self.size) + DEEPER * row.depth for row in rows], default=0)
         self.name_room = min(WIDEST_NAME, names) + 1
         self.left = MARGIN + self.name_room + 60
         verdicts = max([text_width(row.verdict(0), self.size) for row in rows], default=0)
@@ -168,7 +174,10 @@ class Layout:
         # The unit of a logarithmic axis is the time of the shortest first attempt.
         firsts = [row.attempts[0] for row in rows if row.attempts and row.attempts[0].end is not None]
         unit = max(1, min((it.end - it.begin for it in firsts), default=1)) if view.is_log else None
-        moments = shown_moments([row.attempts for row in rows], self.horizon)
+        cuts = [row.ending.at for row in rows if row.ending.how == "cut"]
+        moments = shown_moments([row.attempts for row in rows], max(cuts, default=None) if self.horizon is None else
+                                self.horizon)
+        moments = _with_draws(rows, *moments)
         self.scale = Scale(*(view_within(*moments, view) if rows else moments), self.left, self.right, unit)
         self.labels, self.base = labels(self.scale)
         self.shapes = [shapes_of(row.attempts, self.scale) for row in rows]
@@ -182,12 +191,11 @@ class Layout:
         return self.top + (number + 0.5) * self.row
 
 
-def view_within(first, last, view):
-    """The moments of a view; `first` and `last` are the defaults."""
-    first, last = first if view.first is None else view.first, last if view.last is None else view.last
-    if first >= last and view != View(is_log=view.is_log):
-        raise Refused(f"has nothing from {first} ms to {last} ms: --from must be before --to")
-    return first, last
+def _with_draws(rows, first, last):
+    """The moments of a picture, with those at which attempts may begin, and with the ends that are at most four times
+    as far."""
+    last = max([last, *(most for row in rows for _, most in row.draws)])
+    return first, max([last, *(row.end[0] for row in rows if row.end and row.end[0] - first <= 4 * (last - first))])
 
 
 def draw_bands(layout, count, right):
@@ -222,14 +230,16 @@ def waits_of(row, shapes, scale):
         if right - left >= 2:
             yield left, right, first.begin - last.end
     last = row.attempts[-1] if row.attempts else None
-    if row.ending.how == "unfinished" and last is not None and last.end is not None and shapes:
-        if shapes[-1].last is last and scale.right - shapes[-1].right >= 8:
-            yield shapes[-1].right, scale.right, None
+    if row.ending.how in ("unfinished", "cut") and last is not None and last.end is not None and shapes:
+        right = scale.right if row.ending.how == "unfinished" else scale.at(row.ending.at)
+        if shapes[-1].last is last and right - shapes[-1].right >= 8:
+            yield shapes[-1].right, right, None
 
 
 def draw_row(layout, number, row):
     """A job's attempts, and how it ended."""
     middle, shapes, waits = layout.middle(number), layout.shapes[number], layout.waits[number]
+    yield from draw_draws(layout, middle, row)
     # The time between attempts, with its length if there is room.
     for left, right, time in waits:
         if time is None:
@@ -240,15 +250,32 @@ def draw_row(layout, number, row):
         yield path("".join(f"M{place(left)} {place(middle)}H{place(right)}" for left, right, _ in waits), "wait")
     for shape in shapes:
         yield from draw_shape(shape, middle, layout.bar, row.job.name)
-    if shapes and row.ending.how != "unfinished" and shapes[-1].last is row.attempts[-1]:
+    if row.ending.how == "cut" and row.ending.at <= layout.scale.last:
+        x = place(layout.scale.at(row.ending.at))
+        yield path(f"M{x} {place(middle - layout.bar)}V{place(middle + layout.bar)}", "horizon", "the call's limit")
+    elif shapes and row.ending.how not in ("unfinished", "cut") and shapes[-1].last is row.attempts[-1]:
         size = min(layout.bar * 0.6, 7)
         yield from mark(row.ending.how, shapes[-1].right + size + 3, middle, size)
     verdict = cut_text(row.verdict(layout.base), layout.size, layout.verdict_room)
-    style = {"failed": "bad", "unfinished": "open"}.get(row.ending.how, "good")
+    style = {"failed": "bad", "cut": "bad", "unfinished": "open"}.get(row.ending.how, "good")
     full = ending_text(row.ending.how, row.ending.result(), 200)
     title = f"{row.job.name}: {full} at {row.ending.at} ms, {plural(row.ending.polls, 'poll')}"
     base = middle + layout.size * 0.35
     yield text(layout.right + AFTER_PLOT, base, verdict, f"{layout.style} {style}", title=title)
+
+
+def draw_draws(layout, middle, row):
+    """Where each attempt of a job may begin, and the end of its call."""
+    scale, height = layout.scale, layout.bar * 0.8
+    for number, (least, most) in enumerate(row.draws, 1):
+        if scale.at(most) - scale.at(least) >= 1:
+            yield rectangle(scale.at(least), middle - height, scale.at(most), middle + height, "draws",
+                            f"attempt {number} of {row.job.name} begins from {duration(least)} to {duration(most)}")
+    if row.end and scale.first <= row.end[0] <= scale.last:
+        moment, words = row.end
+        x = place(scale.at(moment))
+        yield path(f"M{x} {place(middle - layout.bar)}V{place(middle + layout.bar)}", END_STYLES.get(words, "claim"),
+                   f"{words} of {row.job.name}, {duration(moment)}")
 
 
 def legend(layout, rows):
@@ -280,6 +307,14 @@ def legend_entries(layout, rows):
     for how, words in [("succeeded", "retry succeeded"), ("failed", "failed"), ("finished", "repeat finished")]:
         if how in {row.ending.how for row in rows}:
             yield (lambda x, y, how=how: mark(how, x + 8, y, 6)), words
+    if any(row.draws for row in rows):
+        yield lambda x, y: [rectangle(x, y - 7, x + 16, y + 7, "draws")], "where an attempt may begin"
+    for what in dict.fromkeys(row.end[1] for row in rows if row.end):
+        ends = [row.end[0] for row in rows if row.end and row.end[1] == what]
+        away = [duration(it) for it in ends if it > layout.scale.last]
+        words = what + f", {', '.join(away[:3])}: outside of this picture" * bool(away)
+        style = END_STYLES.get(what, "claim")
+        yield lambda x, y, style=style: [path(f"M{place(x + 8)} {place(y - 8)}v16", style)], words
     if layout.horizon is not None:
         is_shown = layout.scale.first <= layout.horizon <= layout.scale.last
         words = f"horizon, {duration(layout.horizon)}" + ("" if is_shown else ", outside of this picture")
@@ -288,10 +323,11 @@ def legend_entries(layout, rows):
 
 def draw(rows, title, view=View(), is_file=True, notes=()):
     """The picture of some jobs as SVG, in lines: for a file, or inside of a page. The notes are below its title."""
-    head = 30 if title else 0
+    head, rows = 30 if title else 0, [row.limited() for row in rows]
     layout = Layout(rows, head + 18 * len(notes), view)
     entries, height = legend(layout, rows)
-    yield from opening(WIDTH, layout.foot + height, title or "Timeline of a report of zsched", STYLE, is_file, PATTERNS)
+    yield from opening(WIDTH, layout.foot + height, title or "Timeline of a report of zsched",
+                       STYLE + MORE_STYLE * any(row.draws or row.end for row in rows), is_file, PATTERNS)
     if title:
         yield text(MARGIN, 27, cut_text(title, TITLE_SIZE * 1.1, WIDTH - 2 * MARGIN), "title")
     for number, note in enumerate(notes, 1):
@@ -317,8 +353,9 @@ def draw_jobs(layout, rows):
     yield from draw_bands(layout, len(rows), layout.left - 2)
     for number, row in enumerate(rows):
         base = layout.middle(number) + layout.size * 0.35
-        name = cut_text(row.job.name, layout.size, layout.name_room)
-        yield text(MARGIN, base, name, layout.style, title=row.job.name if name != row.job.name else None)
+        name = cut_text(row.job.name, layout.size, layout.name_room - DEEPER * row.depth)
+        yield text(MARGIN + DEEPER * row.depth, base, name, layout.style,
+                   title=row.job.name if name != row.job.name else None)
         yield text(layout.left - 10, base, row.job.mode, "mode", "end")
     yield '</g><g id="moments">'
     # The labels of the moments above the rows.

@@ -15,11 +15,11 @@ class Cause(NamedTuple):
 
 
 class FaultAt(Exception):
-    """A text is wrong at a place. `cause` is the Cause."""
+    """A text is wrong at a place. `cause` is the Cause, and `number` that of the text among several."""
 
-    def __init__(self, cause):
+    def __init__(self, cause, number=0):
         super().__init__(cause.what)
-        self.cause = cause
+        self.cause, self.number = cause, number
 
 
 def choose(at, *rows):
@@ -61,11 +61,11 @@ def tell_policy(head, text, cause, paint):
 
 
 def told(name, text, cause, job=None):
-    """The lines that show the place of a cause in a file's text, without a newline at the end."""
+    """The lines that show the place of a cause in a file's text."""
     lines = list(place_lines(in_file(name, text, cause), text, cause, unpainted))
     if job is not None:
         lines.append(f'{" " * len(str(line_of(text, cause.at)))} = job "{shown(job, 64)}"')
-    return "\n".join(lines)
+    return lines
 
 
 def unpainted(_, text):
@@ -85,7 +85,7 @@ def fault_lines(name, found, paint=unpainted):
         lines.append(f"{gutter} {paint('faint', '=')} {paint('help', 'help')}: {cause.help}")
     if found.name is not None:
         lines.append(f'{gutter} {paint("faint", "=")} job {found.job} is "{shown(found.name, 64)}"')
-    return "".join(line.rstrip() + "\n" for line in lines)
+    return [line.rstrip() for line in lines]
 
 
 def excerpt(text, cause):

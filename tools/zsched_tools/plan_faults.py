@@ -306,7 +306,8 @@ def same_name(jobs, job):
     first_one = next(other.get("name") for other in jobs.items() if (said in (source := other.source) or "\\" in source)
                      and other.get("name").string() == said)
     line = line_of(text, first_one.at)
-    free = next(f"{said[:58]}-{number}" for number in range(2, 10002) if f'"{said[:58]}-{number}"' not in text)
+    taken = set(re.findall(rf'"{re.escape(said[:58])}-([0-9]++)"', text))
+    free = next(f"{said[:58]}-{number}" for number in range(2, 10002) if str(number) not in taken)
     return over(node, f"the job of line {line} has this name too", f'write another name, as "{free}"')
 
 

@@ -3,6 +3,7 @@ import itertools
 import json
 import math
 import operator
+import re
 import sys
 from typing import NamedTuple
 
@@ -10,6 +11,7 @@ from zsched_tools import program, schedule_rules
 from zsched_tools.command import Paint, note
 
 MOST_ATTEMPTS = 10**6
+_HORIZON = re.compile(rb'("horizon": *)([0-9]+)')
 # From which number of nodes on a schedule pays for more workers than one, and a batch of schedules for its thread.
 _NODES, _BATCH = 100, 4000
 _MOST_TICKS = 1000000
@@ -42,11 +44,22 @@ def warn(tool, found, color="auto"):
 def warning(plan, limit=MOST_ATTEMPTS, times=1):
     """The warning for the bytes of a plan that may have more attempts than the limit if it is run so many times, else
     None; also None for a plan that the program rejects."""
-    most = (_found(plan, lambda tree: sum(_attempts(job, _clock(tree)) for job in tree["jobs"])) or 0) * times
+    most = most_attempts(plan) * times
     if most <= limit:
         return None
     count = f"{most:,.0f}" if most < 10**16 else "more than 10^16"
     return f"its attempts may be {count}, more than {limit:,}: the run may be long, and its report large"
+
+
+def most_attempts(plan):
+    """The most attempts that the bytes of a plan may have, 0 of one that the program rejects."""
+    return _found(plan, lambda tree: sum(_attempts(job, _clock(tree)) for job in tree["jobs"])) or 0
+
+
+def with_fewer(plan, limit):
+    """The bytes of a plan with a horizon, and the horizon that it then has, so that it makes about so many attempts."""
+    until = int(_HORIZON.search(plan)[2]) * limit // max(limit, math.ceil(most_attempts(plan)))
+    return _HORIZON.sub(rb"\g<1>%d" % until, plan, count=1), until
 
 
 def workers_warning(plan):

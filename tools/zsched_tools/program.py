@@ -13,14 +13,15 @@ import time
 
 from zsched_tools.command import Refused, naming, note
 from zsched_tools.progress import waiting
+from zsched_tools.proved import is_proved
 
 # The limits of a plan: its bytes, its jobs, the entries of a script, of which the last one repeats, and its last
 # moment.
 MAX_BYTES, MOST_JOBS, MOST_ENTRIES, LAST_MOMENT = 16_777_216, 10_000, 1000, 999_999_999_999_999
-# The end of a program that build/unproved.py built.
-UNPROVED = b"\nunproved\n"
 _HERE = pathlib.Path(__file__).resolve()
 CRATES = _HERE.parents[2] / "crates"
+# The folder of the programs that were proved and built in this tree.
+PROVED = CRATES.parent / "out" / "proved"
 # The folder of the programs that were installed with these tools, which are in share/zsched beside it.
 INSTALLED = _HERE.parents[3] / "bin" if _HERE.parents[2].name == "share" else None
 
@@ -44,13 +45,9 @@ def find_beside(name, named=None):
             if not os.access(place, os.X_OK) or os.path.isdir(place):
                 raise NoProgram(f"no program at {place}")
             return str(place)
-    crate = name.replace("-", "_")
-    out = CRATES / crate / "out"
-    built = [it for it in [out / crate, *out.glob("unproved-*")] if os.access(it, os.X_OK)]
-    if built:
-        last = max(built, key=lambda it: it.stat().st_mtime)
+    if last := _last_built(name):
         if not is_proved(last):
-            _say_unproved()
+            _say_unproved(name)
         return str(last)
     return INSTALLED and shutil.which(name, path=INSTALLED) or shutil.which(name)
 
@@ -60,16 +57,22 @@ def find_bounds(named=None):
     return find_beside("zsched-bounds", named)
 
 
-def is_proved(path):
-    """Whether a program's file can be read, and hasn't the mark of build/unproved.py."""
-    with contextlib.suppress(OSError):
-        return os.path.isfile(path) and not pathlib.Path(path).read_bytes().endswith(UNPROVED)
-    return False
+def _last_built(name):
+    """The path of the last program of this name that this tree built, or None."""
+    crate = name.replace("-", "_")
+    built = [PROVED / crate, *(CRATES / crate / "out").glob("unproved-*")]
+    return max((it for it in built if os.access(it, os.X_OK)), key=lambda it: it.stat().st_mtime, default=None)
+
+
+def _say_unproved(name):
+    """Says that the program of this name is unproved, or that both that ./run builds are."""
+    both = map(_last_built, ("zsched", "zsched-bounds"))
+    _say(*("programs", "them") if not any(it is None or is_proved(it) for it in both) else (name, "it"))
 
 
 @functools.cache
-def _say_unproved():
-    note("takes the programs that ./run built, unproved (./run --proved proves them)")
+def _say(what, pronoun):
+    note(f"takes the {what} that ./run built, unproved (./run --proved proves {pronoun})")
 
 
 def job_text(name, schedule, entries, mode="retry", start=None):

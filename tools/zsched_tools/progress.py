@@ -16,7 +16,7 @@ def is_shown():
 
 def write(line):
     """Replaces the line. An empty line removes it."""
-    sys.stderr.write(f"\r\x1b[K{line}")
+    sys.stderr.write(f"{command.own(f'{chr(13)}{command.ESC}K')}{line}")
     sys.stderr.flush()
 
 

@@ -10,6 +10,7 @@ import contextlib
 import dataclasses
 import io
 import re
+from array import array
 
 from zsched_tools.command import Refused
 
@@ -26,6 +27,7 @@ _INNERMOST = re.compile(rf"\({_PART},{_PART}\)|(?:Left|Right)\({_PART}\)|\[(?:{_
 _WHOLE_OUTPUT = re.compile(_PART)
 _TWENTY_DIGITS = re.compile("[0-9]{20}")
 _ATTEMPT = re.compile(rb"\nattempt \d+ (\d+)\.\.(?:(\d+) (ok|err) (\d+))?")
+_BEGIN = re.compile(rb"\nattempt \d+ (\d+)")
 _END = re.compile(rb"\nend (\w+)(?: (\S+))? at (\d+) polls ")
 
 
@@ -270,6 +272,12 @@ def joined(reports):
     return b"".join(bodies) + b"polls %d\n" % sum(map(int, totals))
 
 
+def whole_block(block):
+    """The report of one job, from its block."""
+    polls = re.search(rb"(?m)^end .* polls (\d+)$", block)[1]
+    return re.sub(rb"(?m)^polls \d+\n", b"", block).rstrip(b"\n") + b"\npolls %b\n" % polls
+
+
 def blocks_of(report):
     """The jobs of a report's bytes, each from its first line on; the last one with the total."""
     begin = 0
@@ -283,6 +291,11 @@ def attempts_in(block):
     """The attempts of a job's bytes: begin, end, ok or err, and value, all as texts. Only the begin of one that runs at
     the horizon isn't empty."""
     return _ATTEMPT.findall(block)
+
+
+def begins_in(block):
+    """The moments at which the attempts of a job's bytes begin."""
+    return array("Q", map(int, _BEGIN.findall(block)))
 
 
 def ending_in(block):

@@ -336,7 +336,7 @@ def _limit_of_time(spot):
         return None
     time = found[1].strip()
     if not time.isdigit():
-        time = re.sub(r"\D*([0-9]+).*", r"\1", in_milliseconds(time))
+        time = next(iter(re.findall("[0-9]+", in_milliseconds(time))), "")
     return spot.cause(len("upTo"), "up_to", "elapsed", first=before, text=time) if time.isdigit() else None
 
 

@@ -1,13 +1,9 @@
 """Draws the load of many jobs as a strip of bars, below the rows of a picture or in place of them."""
-from typing import NamedTuple
-
-from zsched_tools import picture
-from zsched_tools.command import Refused
-from zsched_tools.drawing import (NEAREST_LABELS, Scale, View, cut_text, labels, opening, path, place, rectangle,
-                                  round_numbers, step_between_labels, steps_to, text, text_width, titled)
+from zsched_tools.drawing import (NEAREST_LABELS, PATTERNS, SMALL_SIZE, STYLE, TITLE_SIZE, WIDTH, Scale, View, cut_text,
+                                  labels, opening, path, place, rectangle, round_numbers, step_between_labels, steps_to,
+                                  text, text_width, titled, view_within)
 from zsched_tools.load import Load
-from zsched_tools.reports import Attempt, records
-from zsched_tools.words import duration, plural
+from zsched_tools.words import duration
 
 # In pixels: the height of the bars of attempts, that of running and waiting, and that of the words above each.
 BARS, LINES, WORDS = 56, 40, 18
@@ -64,7 +60,7 @@ def _lines(top, times):
 
 def _words(long, short, scale, base):
     """What a part of the strip shows, in long words if they fit, else in short ones."""
-    has_room = text_width(long, picture.SMALL_SIZE) <= scale.right - scale.left
+    has_room = text_width(long, SMALL_SIZE) <= scale.right - scale.left
     return text(scale.left, base, long if has_room else short, "axis")
 
 
@@ -103,27 +99,26 @@ def _levels(rows, every, scale, base, unit):
 def _moments_of(load, view):
     """The first and the last moment that a load's picture shows."""
     first, last = load.steps() or (0, 0)
-    return picture.view_within(first * load.every, (last + 1) * load.every, view)
+    return view_within(first * load.every, (last + 1) * load.every, view)
 
 
 def draw_strip(load, title, note=None, view=View(), width=None):
     """The load as a separate picture, in lines of SVG. Without a width it is a file, as wide as a picture of rows.
     With a width it is a part of a page."""
-    is_file, width = width is None, width or picture.WIDTH
+    is_file, width = width is None, width or WIDTH
     first, last = _moments_of(load, view)
     least = -(-(-(-last // load.every) - first // load.every) // MOST_BARS)
     load = load.coarser(next(number for number in round_numbers() if number >= least))
     moments = _moments_of(load, view)
-    left = LEFT + text_width(f"{max(_shown(load, *moments)[1:]):,}", picture.SMALL_SIZE)
+    left = LEFT + text_width(f"{max(_shown(load, *moments)[1:]):,}", SMALL_SIZE)
     scale = Scale(*moments, left, width - LEFT, load.every if view.is_log else None)
     found, base = labels(scale)
     top = 16 + (30 if title else 0) + (20 if note else 0) + (18 if base else 0)
     middle, floor = _lines(top, ALONE)
     bottom = floor + 8
-    yield from opening(width, bottom + 34, title or "Load of a report of zsched", picture.STYLE, is_file,
-                       picture.PATTERNS)
+    yield from opening(width, bottom + 34, title or "Load of a report of zsched", STYLE, is_file, PATTERNS)
     if title:
-        yield text(LEFT, 27, cut_text(title, picture.TITLE_SIZE * 1.1, width - 2 * LEFT), "title")
+        yield text(LEFT, 27, cut_text(title, TITLE_SIZE * 1.1, width - 2 * LEFT), "title")
     if note:
         yield text(LEFT, top - 6 - (18 if base else 0), note, "legend")
     if base:
@@ -136,43 +131,3 @@ def draw_strip(load, title, note=None, view=View(), width=None):
         yield text(at, bottom + 16, label, "axis", "start" if at < 60 else "end" if at > width - 60 else "middle")
     yield from strip(load, scale, top, ALONE)
     yield "</svg>"
-
-
-class Crowd(NamedTuple):
-    """The jobs of a report that are drawn: the rows of at most MOST_JOBS jobs, the number of all, and their load."""
-    rows: list
-    jobs: int
-    load: Load
-
-
-def crowd_of(file, chosen, progress=None):
-    """The jobs of a report, a binary file, that are drawn: the chosen ones, or all."""
-    rows, attempts, jobs, load, missing = [], [], 0, Load(1), set(chosen)
-    for job, record in records(file, progress):
-        if job is None or chosen and job.name not in chosen:
-            continue
-        missing.discard(job.name)
-        load = load.take(record).fitted()
-        if isinstance(record, Attempt):
-            attempts += [record] * (jobs < picture.MOST_JOBS)
-            continue
-        if jobs < picture.MOST_JOBS:
-            rows.append(picture.Row(job, attempts, record))
-            attempts = []
-        jobs += 1
-    if missing:
-        raise Refused(f"has no job {min(missing)}")
-    return Crowd(rows, jobs, load)
-
-
-def draw_crowd(crowd, title, view=View(), notes=()):
-    """The picture of a report's jobs, or of their load if they are too many for rows, in lines of SVG."""
-    if crowd.jobs <= picture.MOST_JOBS:
-        return picture.draw(crowd.rows, title, view, notes=notes)
-    return draw_strip(crowd.load, title, note_of(crowd), view)
-
-
-def note_of(crowd):
-    """The line above the load of jobs that are too many for rows."""
-    room = f"a picture has room for the rows of {picture.MOST_JOBS}"
-    return f"{plural(crowd.jobs, 'job')}; {room}: choose some with --job NAME"

@@ -9,6 +9,9 @@ from zsched_tools.words import duration, plural, shown
 
 WIDEST_RESULT = 30
 MOST_AFTER = 999
+# An attempt that runs at the horizon, at the end of a report of one job.
+_LAST = re.compile(rb"\nattempt [0-9]++ ([0-9]++)\.\. running\n(end unfinished at [0-9]++ polls )([0-9]++)\n"
+                   rb"polls [0-9]++\n\Z")
 
 
 def plain_name(text, allowed="._"):
@@ -33,19 +36,20 @@ def entries_text(script):
     return ",".join(f'{{"ms":{ms},"{word}":{value}}}' for ms, word, value in script)
 
 
-def plan_of(horizon, mode, jobs):
-    """The text of a plan with these jobs, each a name, a schedule and the entries of a script."""
+def plan_of(horizon, jobs):
+    """The text of a plan with these jobs, each a name, a schedule, the entries of a script and a mode."""
     jobs = [f'    {{\n      "name": "{name}",\n      "mode": "{mode}",\n      "schedule": '
             f'{json.dumps(schedule, ensure_ascii=False)},\n      "script": ['
             + ", ".join(f'{{ "ms": {ms}, "{word}": {value} }}' for ms, word, value in entries) + "]\n    }"
-            for name, schedule, entries in jobs]
+            for name, schedule, entries, mode in jobs]
     return f'{{\n  "horizon": {horizon},\n  "jobs": [\n' + ",\n".join(jobs) + "\n  ]\n}\n"
 
 
 @dataclass
 class Tried:
     """The result of a policy in a report: its ending with the value, its end, its attempts, the sum of its waits and
-    the longest. An attempt or a wait that continues at the horizon counts up to it."""
+    the longest. An attempt or a wait that continues at the horizon, or at the limit of its call, counts up to it. That
+    limit is the ending `cut`."""
     how: str
     result: str
     at: int
@@ -55,32 +59,58 @@ class Tried:
 
     def line(self, each=None):
         """The result in words, with the length of each attempt if it is given."""
-        ending, length = f"{self.how} {self.result}".strip(), "" if each is None else f" of {duration(each)}"
-        return (f"{ending} after {plural(self.attempts, 'attempt')}{length}, {duration(self.at)} "
+        length = "" if each is None else f" of {duration(each)}"
+        return (f"{self.ending()} after {plural(self.attempts, 'attempt')}{length}, {duration(self.at)} "
                 f"(waited {duration(self.waited)}, longest wait {duration(self.longest)})")
+
+    def ending(self):
+        return "ended by the call's limit" if self.how == "cut" else f"{self.how} {self.result}".strip()
+
+
+def without_last(report, limit):
+    """The report of one job up to the limit of its call, at which no attempt begins."""
+    found = limit and _LAST.search(report)
+    if not found or int(found[1]) != limit:
+        return report
+    polls = int(found[3]) - (b"..%d err " % limit not in report)
+    return report[:found.start()] + b"\n%b%d\npolls %d\n" % (found[2], polls, polls)
 
 
 def waits_between(attempts):
     return [int(after[0]) - int(before[1]) for before, after in itertools.pairwise(attempts)]
 
 
-def tried_in(report):
-    """The result of each job in a report's bytes."""
-    for block in blocks_of(report):
+def waits_in(report):
+    """The waits between the attempts of each job in a report's bytes."""
+    return (waits_between(attempts_in(block)) for block in blocks_of(report))
+
+
+def tried_in(report, limits=itertools.repeat(None)):
+    """The result of each job in a report's bytes, each with the limit of its call, if that ends it."""
+    for block, limit in zip(blocks_of(report), limits):
         how, result, at = ending_in(block)
         attempts = attempts_in(block)
         waits = waits_between(attempts)
         if how == "unfinished" and attempts:
             waits.append(at - int(attempts[-1][1] or at))
+        how = "cut" if how == "unfinished" and at == limit else how
         yield Tried(how, shown(result, WIDEST_RESULT), at, len(attempts), sum(waits), max(waits, default=0))
 
 
-def as_object(policy, found, bounds):
-    """The result of a policy and its bounds, as an object of JSON."""
-    limits = bounds and ((None, None) if bounds.is_cut else bounds.limits())
+def every_input(bounds):
+    """Bounds as an object of JSON."""
+    limits, (latest, is_cut) = bounds.limits(), bounds.latest()
+    return {"is_proved": bounds.is_proved, "never_gives_up": bounds.is_endless, "least_attempts": bounds.least,
+            "most_attempts": bounds.most, "longest_wait_ms": limits[0], "waited_ms": limits[1],
+            "end_ms": None if bounds.is_cut_inside else bounds.call(), "end_by_limit_ms": latest if is_cut else None,
+            "within": bounds.within}
+
+
+def as_object(policy, found, bounds, driver):
+    """The result of a policy (None: no run was drawn), its bounds and what runs it then, and its settings, as an object
+    of JSON."""
+    found = found or Tried(*[None] * 6)
     return {"policy": policy.text, "schedule": policy.spelled, "how": found.how, "result": found.result,
             "end_ms": found.at, "attempts": found.attempts, "waited_ms": found.waited, "longest_wait_ms": found.longest,
-            "for_every_input": bounds and {
-                "is_proved": bounds.is_proved, "never_gives_up": bounds.is_endless, "least_attempts": bounds.least,
-                "most_attempts": bounds.most, "longest_wait_ms": limits[0], "waited_ms": limits[1],
-                "end_ms": bounds.call()}}
+            "for_every_input": bounds and every_input(bounds), "holds_for": bounds and driver.members(),
+            **policy.limits()}

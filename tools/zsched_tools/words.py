@@ -1,4 +1,5 @@
 """Durations, numbers, lists and tables as people read them."""
+import json
 import re
 import textwrap
 
@@ -7,6 +8,7 @@ WIDTH = 100
 MINUTE = 60_000
 HOUR = 60 * MINUTE
 DAY = 24 * HOUR
+_COMMAND, _BEGIN = re.compile(r"#(?=#\w*+\[)"), re.compile(r"\A( *+):(?=:)")
 _LONG_UNITS = [(DAY, "d"), (HOUR, "h"), (MINUTE, "min")]
 
 
@@ -29,6 +31,15 @@ def shown(text, most=40):
     """A piece of a plan in one line: what a terminal can't print becomes a question mark, and a long piece is cut."""
     text = text if len(text) <= most else text[:most - 2] + ".."
     return "".join(letter if letter.isprintable() else "?" for letter in text)
+
+
+def one_line(text, is_begin=True):
+    """A text in one line, as each output has it: what isn't printable is written as JSON's escape, and so is a part of
+    what a CI's log reads as a command, `##[` and `##WORD[` anywhere, and `::` where a line begins."""
+    if not text.isprintable():
+        text = "".join(letter if letter.isprintable() else json.dumps(letter)[1:-1] for letter in text)
+    text = _COMMAND.sub(r"\\u0023", text) if "##" in text else text
+    return _BEGIN.sub(r"\1\\u003a", text) if is_begin else text
 
 
 def listed(words, last="and"):

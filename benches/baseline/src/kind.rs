@@ -5,8 +5,8 @@ use crate::schedule::{Function, Operator, Pick, Schedule};
 #[derive(PartialEq)]
 enum Kind {
     Number,
-    Pair(Box<(Kind, Kind)>),
-    Sum(Box<(Kind, Kind)>),
+    Pair(Box<Kind>, Box<Kind>),
+    Sum(Box<Kind>, Box<Kind>),
     Items(Box<Kind>),
 }
 
@@ -17,17 +17,15 @@ pub fn has_kind(schedule: &Schedule) -> bool {
 fn fits(pick: Pick, kind: &Kind) -> bool {
     match (pick, kind) {
         (Pick::Whole, Kind::Number) | (Pick::Size, Kind::Items(_)) => true,
-        (Pick::First, Kind::Pair(parts)) => parts.0 == Kind::Number,
-        (Pick::Second, Kind::Pair(parts)) => parts.1 == Kind::Number,
+        (Pick::First, Kind::Pair(part, _)) | (Pick::Second, Kind::Pair(_, part)) => **part == Kind::Number,
         _ => false,
     }
 }
 
 fn kind_after(function: Function, kind: Kind) -> Option<Kind> {
     match (function, kind) {
-        (Function::First, Kind::Pair(parts)) => Some(parts.0),
-        (Function::Second, Kind::Pair(parts)) => Some(parts.1),
-        (Function::Merge, Kind::Sum(parts)) if parts.0 == parts.1 => Some(parts.0),
+        (Function::First, Kind::Pair(part, _)) | (Function::Second, Kind::Pair(_, part)) => Some(*part),
+        (Function::Merge, Kind::Sum(left, right)) if left == right => Some(*left),
         (Function::Size, Kind::Items(_)) => Some(Kind::Number),
         (Function::Add(_) | Function::Multiply(_), Kind::Number) => Some(Kind::Number),
         (Function::As(_), _) => Some(Kind::Number),
@@ -38,11 +36,11 @@ fn kind_after(function: Function, kind: Kind) -> Option<Kind> {
 fn kind_of(schedule: &Schedule) -> Option<Kind> {
     match schedule {
         Schedule::Leaf(_) => Some(Kind::Number),
-        Schedule::Join(operator, parts) => {
-            let kinds = Box::new((kind_of(&parts.0)?, kind_of(&parts.1)?));
+        Schedule::Join(operator, left, right) => {
+            let (left, right) = (Box::new(kind_of(left)?), Box::new(kind_of(right)?));
             Some(match operator {
-                Operator::Both | Operator::Either => Kind::Pair(kinds),
-                Operator::AndThen => Kind::Sum(kinds),
+                Operator::Both | Operator::Either => Kind::Pair(left, right),
+                Operator::AndThen => Kind::Sum(left, right),
             })
         }
         Schedule::WhileInput(part, _) => kind_of(part),

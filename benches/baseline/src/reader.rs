@@ -26,7 +26,7 @@ impl Part {
     fn join(operator: Operator, left: Part, right: Part) -> Part {
         match (left.0, right.0) {
             (Some((left, d, w)), Some((right, e, v))) => {
-                Part::new(Schedule::Join(operator, Box::new((left, right))), 1 + d.max(e), 1 + w + v)
+                Part::new(Schedule::Join(operator, Box::new(left), Box::new(right)), 1 + d.max(e), 1 + w + v)
             }
             _ => Part(None),
         }

@@ -72,7 +72,7 @@ pub enum Leaf {
 
 pub enum Schedule {
     Leaf(Leaf),
-    Join(Operator, Box<(Schedule, Schedule)>),
+    Join(Operator, Box<Schedule>, Box<Schedule>),
     WhileInput(Box<Schedule>, Test),
     WhileOutput(Box<Schedule>, Pick, Test),
     CollectAll(Box<Schedule>),

@@ -34,8 +34,8 @@ impl State {
         let boxed = |part: Box<Schedule>| Box::new(State::new(*part));
         match schedule {
             Schedule::Leaf(leaf) => State::Leaf(LeafState::new(leaf)),
-            Schedule::Join(operator, parts) => {
-                let parts = Box::new((State::new(parts.0), State::new(parts.1)));
+            Schedule::Join(operator, left, right) => {
+                let parts = Box::new((State::new(*left), State::new(*right)));
                 match operator {
                     Operator::Both => State::Both(parts),
                     Operator::Either => State::Either(parts),

@@ -16,7 +16,7 @@ import (
 
 const busy = 3
 
-var policy = zsched.MustCompile("((exponential(20) || spaced(100)) && recurs(5))")
+var fetching = zsched.Retry{Schedule: zsched.MustCompile("((exponential(20) || spaced(100)) && recurs(5))")}
 
 var errBusy = errors.New("503")
 
@@ -56,11 +56,10 @@ func main() {
 		panic(err)
 	}
 	go serve(server)
-	begun, attempts, text := time.Now(), 0, ""
-	err = zsched.Retry(context.Background(), policy, func(error) uint64 { return 503 }, func(context.Context) (err error) {
+	begun, attempts := time.Now(), 0
+	text, err := zsched.RetryValue(context.Background(), &fetching, func(context.Context) (string, error) {
 		attempts++
-		text, err = fetch(server.Addr().String())
-		return err
+		return fetch(server.Addr().String())
 	})
 	fmt.Println(text, "after", attempts, "attempts")
 	if err != nil || text != "ready" || attempts != busy+1 || time.Since(begun) < 140*time.Millisecond {

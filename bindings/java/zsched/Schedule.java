@@ -1,6 +1,7 @@
 package zsched;
 
 import com.sun.jna.Native;
+import java.io.IOException;
 import java.nio.charset.StandardCharsets;
 import java.time.Duration;
 import java.util.Optional;
@@ -11,21 +12,45 @@ import java.util.concurrent.ThreadLocalRandom;
  * A proved schedule of zsched: a text, compiled once, and the state after the steps so far. It doesn't
  * sleep; {@link Retry} really sleeps. Its results are proved, the sleeping is not.
  *
- * <p>The library is libzsched.so, which JNA finds by the property jna.library.path or in the jar, or
- * the one that the property zsched.library names. Numbers are unsigned and of 64 bits, so those from 2^63 on
- * look negative here: compare and print them by {@link Long#compareUnsigned} and
+ * <p>The library is the libzsched.so that the property zsched.library names, else, with the property
+ * jna.library.path, the one that JNA finds, else the one in the jar, else the system's. Numbers are unsigned and
+ * of 64 bits, so those from 2^63 on look negative here: compare and print them by {@link Long#compareUnsigned} and
  * {@link Long#toUnsignedString(long)}. Threads must not share a schedule that one of them steps, but may
  * share one of which they only {@link #begin} others.
  */
 public final class Schedule {
     /** The calls of zsched.h. A struct is an array of its words, of which the first is its size in bytes. */
     private static final class Calls {
-        static {
+        private static final String MISSING = registered();
+
+        /** Registers the calls. Returns why that can't be, or null. An error would make the class unusable unsaid. */
+        private static String registered() {
             try {
-                Native.register(Calls.class, System.getProperty("zsched.library", "zsched"));
+                Native.register(Calls.class, place());
+                return null;
             } catch (UnsatisfiedLinkError fault) {
-                throw new UnsatisfiedLinkError(fault.getMessage() + "\nzsched: the jar has the library for Linux on "
-                    + "x86-64 with glibc; else name a built libzsched.so in the property zsched.library");
+                return fault.getMessage() + "\nzsched: the jar has the library for Linux on x86-64 and arm64 with "
+                    + "glibc; else name a built libzsched.so in the property zsched.library";
+            }
+        }
+
+        /** Throws an UnsatisfiedLinkError if there is no library, each time. */
+        static void need() {
+            if (MISSING != null) {
+                throw new UnsatisfiedLinkError(MISSING);
+            }
+        }
+
+        /** Returns the library's path, or its name if JNA must find it. JNA would take the system's before the jar's. */
+        private static String place() {
+            String named = System.getProperty("zsched.library");
+            if (named != null || System.getProperty("jna.library.path") != null) {
+                return named == null ? "zsched" : named;
+            }
+            try {
+                return Native.extractFromResourcePath("zsched", Schedule.class.getClassLoader()).getPath();
+            } catch (IOException fault) {
+                return "zsched";
             }
         }
 
@@ -43,49 +68,36 @@ public final class Schedule {
     }
 
     /**
-     * What a loop of attempts may do, for {@link #bounds}: an attempt takes {@code least}, 1 millisecond or
-     * more, to {@code most}, which is null for any time; {@code jitter} is a share from 0 to 1, as of a plan;
-     * {@code asked} is the longest least wait that counts; an attempt begins at most {@code late} after it may,
-     * and {@code ChronoUnit.FOREVER.getDuration()} is any lateness.
+     * What a schedule does for every input, if no moment is above 999999999999999 ms. An error that isn't retried may end
+     * a call before {@code least}.
+     *
+     * @param seen the number of attempts that were examined
+     * @param least the schedule isn't done before this attempt: 1 with a budget or a deadline
+     * @param most the number of attempts at most; empty if there is no bound
+     * @param longest the longest wait after the attempts that were examined
+     * @param total all waits together at most; empty if there is no bound
+     * @param longestRun each attempt ends at most this long after the begin of the first; empty if there is no bound
      */
-    public record Driver(Duration least, Duration most, double jitter, Duration asked, Duration late) {
-        /** Makes a driver, or throws IllegalArgumentException; {@link #bounds} tests the times of attempts. */
-        public Driver {
-            percent(jitter);
-            if (asked.isNegative() || late.isNegative()) {
-                throw new IllegalArgumentException("zsched: " + asked + " or " + late + " is below 0");
-            }
-        }
-
-        /** Makes a driver with attempts that take so long, without jitter, least waits and lateness. */
-        public Driver(Duration least, Duration most) { this(least, most, 0, Duration.ZERO, Duration.ZERO); }
-    }
-
-    /**
-     * What a schedule does for every input, with any loop that does what the driver says, if no moment
-     * is above 999999999999999: the number of attempts that were examined, the first that can be the
-     * last one, the number of attempts at most, the longest wait after the examined ones, all waits
-     * together, and when each attempt ends at most, from the begin of the first; in milliseconds.
-     * {@code most}, {@code total} and {@code longestRun} are empty if there is no bound.
-     */
-    public record Bounds(long seen, long least, OptionalLong most, long longest, OptionalLong total,
-            OptionalLong longestRun) {
+    public record Bounds(long seen, long least, OptionalLong most, Duration longest, Optional<Duration> total,
+            Optional<Duration> longestRun) {
         /** Returns whether there are at most {@code most} attempts, and so much wait in all. */
         public boolean within(long most, Duration total) {
-            return isWithin(this.most, most) && isWithin(this.total, units(total, 1000, 0)) && !total.isNegative();
+            return this.most.isPresent() && Long.compareUnsigned(this.most.getAsLong(), most) <= 0
+                && isWithin(this.total, total);
         }
 
         /** Returns whether each call ends within {@code run}, attempts and waits together. */
-        public boolean endsWithin(Duration run) {
-            return isWithin(longestRun, units(run, 1000, 0)) && !run.isNegative();
-        }
+        public boolean endsWithin(Duration run) { return isWithin(longestRun, run); }
 
-        private static boolean isWithin(OptionalLong bound, long most) {
-            return bound.isPresent() && Long.compareUnsigned(bound.getAsLong(), most) <= 0;
+        private static boolean isWithin(Optional<Duration> bound, Duration most) {
+            return bound.isPresent() && bound.get().compareTo(most) <= 0;
         }
     }
 
-    /** The error of a call. The number and the place are those of zsched.h, and the message is the library's. */
+    /**
+     * The error of a call. The number and the place are those of zsched.h. The message has the library's words, and for a
+     * text a hint, the text and a mark below its fault.
+     */
     public static final class Fault extends IllegalArgumentException {
         private static final long serialVersionUID = 1;
 
@@ -93,18 +105,24 @@ public final class Schedule {
         public final int number;
         /** The place, as zsched.h defines it. */
         public final long at;
+        /** The text that is wrong, or null. */
+        public final String text;
 
-        Fault(int number, long at) {
-            super(message(number, at));
+        Fault(int number, long at, String text) {
+            super(text == null ? message(number, at) : Hints.message(message(number, at), number, (int) at, text));
             this.number = number;
             this.at = at;
+            this.text = text;
         }
     }
 
     private static final int OK = 0;
     private static final int DONE = 1;
+    private static final int NO_STEP = 2;
     private static final int NO_MEMORY = 5;
     private static final int OTHER_STATE = 9;
+    private static final int NO_DRIVER = 10;
+    private static final int OTHER_VERSION = 18;
     private static final int ROOM = 256;
     private static final long SECOND = 1_000_000_000;
 
@@ -114,16 +132,17 @@ public final class Schedule {
 
     /** Makes the schedule of a text, before its first step. Throws {@link Fault}: number 6 for a list in its output. */
     public Schedule(String text) {
+        Calls.need();
         byte[] bytes = text.getBytes(StandardCharsets.UTF_8);
         long[] size = new long[1];
         long[] stateSize = new long[1];
         long[] at = new long[1];
-        continues(Calls.zs_program_size(bytes, bytes.length, size, stateSize, at), at[0]);
+        continues(Calls.zs_program_size(bytes, bytes.length, size, stateSize, at), at[0], text);
         this.text = text;
         this.program = new long[Math.toIntExact(size[0])];
         this.state = new long[Math.toIntExact(stateSize[0])];
-        continues(Calls.zs_compile(bytes, bytes.length, program, program.length, at), at[0]);
-        continues(Calls.zs_program_begin(program, program.length, state, state.length), 0);
+        continues(Calls.zs_compile(bytes, bytes.length, program, program.length, at), at[0], text);
+        continues(Calls.zs_program_begin(program, program.length, state, state.length));
     }
 
     private Schedule(Schedule other, long[] state) {
@@ -134,13 +153,14 @@ public final class Schedule {
 
     /**
      * Returns the schedule of a text with a state that {@link #state} returned. Throws as the
-     * constructor does, and {@link Fault} if the words are those of another schedule.
-     * Words that were changed after the first aren't detected.
+     * constructor does, and {@link Fault}: number 9 for the words of another schedule, 18 for those of another version.
+     * Words that were changed after those that identify it aren't detected.
      */
     public static Schedule resume(String text, long[] state) {
         Schedule first = new Schedule(text);
-        if (state.length != first.state.length || state[0] != first.state[0]) {
-            throw new Fault(OTHER_STATE, 0);
+        int number = Calls.zs_output(first.program, first.program.length, state, state.length, new byte[0], 0, new long[1]);
+        if (state.length != first.state.length || number != OK && number != NO_STEP) {
+            throw new Fault(number == OTHER_VERSION ? number : OTHER_STATE, 0, null);
         }
         return new Schedule(first, state.clone());
     }
@@ -148,7 +168,7 @@ public final class Schedule {
     /** Returns a schedule of the same program, which is shared, before its first step. */
     public Schedule begin() {
         long[] first = new long[state.length];
-        continues(Calls.zs_program_begin(program, program.length, first, first.length), 0);
+        continues(Calls.zs_program_begin(program, program.length, first, first.length));
         return new Schedule(this, first);
     }
 
@@ -158,7 +178,7 @@ public final class Schedule {
     /** Returns the text. */
     public String text() { return text; }
 
-    /** Returns the words of the state. Their number depends on the text alone; the first identifies the schedule. */
+    /** Returns the words of the state. Their number depends on the text alone; the first ones identify the schedule. */
     public long[] state() { return state.clone(); }
 
     /**
@@ -170,17 +190,17 @@ public final class Schedule {
         long[] next = new long[1];
         int number = Calls.zs_program_step(program, program.length, state, state.length, moment, input, next,
             new long[1]);
-        return limit(continues(number, 0), next[0]);
+        return limit(continues(number), next[0]);
     }
 
     /** Returns the text of the last step's output. Throws {@link Fault}, with the number 2, before a first step. */
     public String output() {
         byte[] out = new byte[ROOM];
         long[] size = new long[1];
-        continues(Calls.zs_output(program, program.length, state, state.length, out, out.length, size), 0);
+        continues(Calls.zs_output(program, program.length, state, state.length, out, out.length, size));
         if (size[0] > out.length) {
             out = new byte[Math.toIntExact(size[0])];
-            continues(Calls.zs_output(program, program.length, state, state.length, out, out.length, size), 0);
+            continues(Calls.zs_output(program, program.length, state, state.length, out, out.length, size));
         }
         return new String(out, 0, (int) size[0], StandardCharsets.US_ASCII);
     }
@@ -217,37 +237,43 @@ public final class Schedule {
         long[] turn = {7 * Long.BYTES, units(began, SECOND, 0), units(ended, SECOND, 0), input,
             units(least, 1000, 999_999), units(longest, 1000, 0), (long) draw << 32 | percent(jitter)};
         long[] begin = new long[1];
-        if (!continues(Calls.zs_plan(program, program.length, state, state.length, turn, begin), 0)) {
+        if (!continues(Calls.zs_plan(program, program.length, state, state.length, turn, begin))) {
             return Optional.empty();
         }
-        return Optional.of(Duration.ofSeconds(Long.divideUnsigned(begin[0], SECOND),
-            Long.remainderUnsigned(begin[0], SECOND)));
+        return Optional.of(time(begin[0], SECOND));
     }
 
     /**
-     * Returns the bounds of a text's schedule, of which at most the first {@code steps} attempts are
-     * examined. Each attempt takes 1 millisecond or more, without jitter. Throws {@link Fault}.
+     * Returns the bounds of a text's schedule, of which at most the first 1,000 attempts are examined. They take 1
+     * millisecond or more, and waits are the schedule's. {@link Retry#bounds} returns those of a retry with its options.
+     * Throws {@link Fault}.
      */
-    public static Bounds bounds(String text, long steps) {
-        return bounds(text, steps, new Driver(Duration.ofMillis(1), null));
+    public static Bounds bounds(String text) {
+        return bounds(text, 1000, Guard.late(Duration.ZERO), null, 0, Duration.ZERO);
     }
 
-    /** Does the same for loops that do what a driver says. Throws {@link Fault} with the number 10 if none can. */
-    public static Bounds bounds(String text, long steps, Driver driver) {
+    /** Returns the bounds for attempts of at most a time, or of any, with a jitter and a longest least wait. */
+    static Bounds bounds(String text, long steps, Guard guard, Duration longest, double jitter, Duration asked) {
+        Calls.need();
         byte[] bytes = text.getBytes(StandardCharsets.UTF_8);
-        boolean hasMost = driver.most != null;
-        long[] words = {8 * Long.BYTES, units(driver.least, 1000, 0), hasMost ? 1 : 0,
-            hasMost ? units(driver.most, 1000, 999_999) : 0, 100 - percent(driver.jitter), 100,
-            units(driver.asked, 1000, 999_999), units(driver.late, 1000, 999_999)};
+        boolean hasMost = longest != null;
+        long[] words = {8 * Long.BYTES, Math.max(1, units(guard.shortest(), 1000, 0)), hasMost ? 1 : 0,
+            hasMost ? Math.max(1, units(longest, 1000, 999_999)) : 0, 100 - percent(jitter), 100,
+            units(asked, 1000, 0), units(guard.late(), 1000, 999_999)};
         long[] found = {10 * Long.BYTES, 0, 0, 0, 0, 0, 0, 0, 0, 0};
         long[] at = new long[1];
-        continues(Calls.zs_bounds(bytes, bytes.length, words, steps, found, at), at[0]);
-        return new Bounds(found[1], found[2], limit(found[3] == 1, found[4]), found[5],
-            limit(found[6] == 1, found[7]), limit(found[8] == 1, found[9]));
+        int number = Calls.zs_bounds(bytes, bytes.length, words, steps, found, at);
+        continues(number, at[0], number == NO_DRIVER ? null : text);
+        return new Bounds(found[1], found[2], limit(found[3] == 1, found[4]), time(found[5], 1000),
+            Optional.of(time(found[7], 1000)).filter(it -> found[6] == 1),
+            Optional.of(time(found[9], 1000)).filter(it -> found[8] == 1));
     }
 
     /** Returns the version of the library as one number: 1000000 * major + 1000 * minor + patch. */
-    public static int version() { return Calls.zs_version(); }
+    public static int version() {
+        Calls.need();
+        return Calls.zs_version();
+    }
 
     private static OptionalLong limit(boolean isThere, long number) {
         return isThere ? OptionalLong.of(number) : OptionalLong.empty();
@@ -259,6 +285,12 @@ public final class Schedule {
             throw new IllegalArgumentException("zsched: a jitter of " + share + " is not from 0 to 1");
         }
         return (int) Math.round(100 * share);
+    }
+
+    /** Returns a time of so many units. */
+    private static Duration time(long units, long perSecond) {
+        return Duration.ofSeconds(Long.divideUnsigned(units, perSecond),
+            Long.remainderUnsigned(units, perSecond) * (SECOND / perSecond));
     }
 
     /** Returns a time in units, with so many nanoseconds more, rounded down: 0 to 2^64 - 1. */
@@ -277,12 +309,14 @@ public final class Schedule {
         return new String(out, 0, (int) Calls.zs_strerror(number, at, out, out.length), StandardCharsets.US_ASCII);
     }
 
+    private static boolean continues(int number) { return continues(number, 0, null); }
+
     /** Returns whether a schedule continues, by a number of zsched.h, or throws the fault that it represents. */
-    private static boolean continues(int number, long at) {
+    private static boolean continues(int number, long at, String text) {
         switch (number) {
             case OK, DONE -> { return number == OK; }
             case NO_MEMORY -> throw new OutOfMemoryError("zsched: " + message(number, at));
-            default -> throw new Fault(number, at);
+            default -> throw new Fault(number, at, text);
         }
     }
 }

@@ -5,8 +5,8 @@ import os
 import pathlib
 
 SONAME = "libzsched.so.2"
-MISSING = ("{fault}: the library is missing, which there is for Linux on x86-64. Install libzsched2, or build it by "
-           "build/make-library in a tree of zsched, and name the built libzsched.so in ZSCHED_LIBRARY")
+MISSING = ("{fault}: the library is missing, which there is for Linux on x86-64 and arm64. Install libzsched2, or "
+           "build it by build/make-library in a tree of zsched, and name the built libzsched.so in ZSCHED_LIBRARY")
 
 
 class Sized(ctypes.Structure):
@@ -37,8 +37,11 @@ class Turn(Sized):
 
 def _place() -> str:
     """Returns the library's path, or its name if the system must find it."""
-    here = pathlib.Path(__file__).resolve()
-    places = [here.parent / "libzsched.so", here.parents[3] / "crates" / "zsched_c" / "out" / "libzsched.so"]
+    here = pathlib.Path(__file__).resolve().parent
+    places = [here / "libzsched.so"]
+    # Only the source tree has it elsewhere. What is above an installed package may be anyone's.
+    if here.parts[-3:] == ("bindings", "python", "zsched"):
+        places.append(here.parents[2] / "crates" / "zsched_c" / "out" / "libzsched.so")
     return os.environ.get("ZSCHED_LIBRARY", "") or next((str(it) for it in places if it.exists()), SONAME)
 
 

@@ -11,8 +11,8 @@
 //! ```
 //!
 //! [`Schedule`] doesn't sleep: it returns when the next attempt may begin. `retry` and `Retry` sleep
-//! until then. [`bounds`] returns how often and how long a schedule retries at most. What the library
-//! returns is proved, the sleeping is not.
+//! until then, and `Retry::bounds` returns how often and how long one retries at most. What the
+//! library returns is proved, the sleeping is not.
 //!
 //! Without the feature `std`, which is on by default, everything but the retries is available, over
 //! `alloc`.
@@ -26,13 +26,23 @@ use alloc::string::String;
 use alloc::sync::Arc;
 use alloc::vec;
 use alloc::vec::Vec;
-use core::fmt;
 use core::time::Duration;
 
 #[cfg(feature = "std")]
+mod clock;
+mod fault;
+#[cfg(feature = "std")]
 mod retries;
 #[cfg(feature = "std")]
-pub use retries::{retry, Budget, Failed, Retry};
+pub use clock::{retry_after_of, Clock, TestClock};
+pub use fault::{Fault, Kind};
+#[cfg(feature = "std")]
+pub use retries::{retry, Budget, Event, Failed, Guard, Retry, Why, DEFAULT};
+
+/// The snippets of the page are tests.
+#[cfg(all(doctest, feature = "std"))]
+#[doc = include_str!("../README.md")]
+mod page {}
 
 #[repr(C)]
 struct RawTurn {
@@ -63,89 +73,12 @@ extern "C" {
     fn zs_version() -> u32;
 }
 
-/// Why a call failed.
-#[derive(Clone, Copy, Debug, PartialEq, Eq)]
-pub enum Fault {
-    /// The schedule made no step yet, so it has no output.
-    NoStep,
-    /// The moment is below that of the last step.
-    Falls,
-    /// An allocation failed.
-    Memory,
-    /// The output has a list, by `collectAll`, so the state would grow with the steps.
-    KeepsList,
-    /// The words are no program of this version of the library.
-    NoProgram,
-    /// The words of a state are those of another schedule.
-    OtherState,
-    /// No driver does what a `Driver` says.
-    NoDriver,
-    /// The text spells no schedule, found at the byte `at`.
-    NoTerm { at: u64 },
-    /// The schedule is deeper than 64 or weighs more than 1,000.
-    TooBig,
-    /// The number that begins at the byte `at` is above `u64::MAX`.
-    BadNumber { at: u64 },
-    /// A factor of an `exponential` is 0.
-    BadFactor,
-    /// A pick or a function doesn't fit the output that it is applied to.
-    NoKind,
-    /// A window of a `windowed` is 0.
-    BadWindow,
-    /// The library that is linked is of another version.
-    OtherSize,
-}
-
-impl Fault {
-    /// Returns the fault of a number that a call on a text in UTF-8 returned, with its place.
-    fn of(number: u32, at: u64) -> Option<Fault> {
-        Some(match number {
-            2 => Fault::NoStep,
-            3 => Fault::Falls,
-            5 => Fault::Memory,
-            6 => Fault::KeepsList,
-            8 => Fault::NoProgram,
-            9 => Fault::OtherState,
-            10 => Fault::NoDriver,
-            11 => Fault::NoTerm { at },
-            12 => Fault::TooBig,
-            13 => Fault::BadNumber { at },
-            14 => Fault::BadFactor,
-            15 => Fault::NoKind,
-            16 => Fault::BadWindow,
-            17 => Fault::OtherSize,
-            _ => return None,
-        })
-    }
-
-    /// Returns its number and place, as `zsched.h` defines them; the place is 0 if it has none.
-    pub fn number(self) -> (u32, u64) {
-        let at = match self {
-            Fault::NoTerm { at } | Fault::BadNumber { at } => at,
-            _ => 0,
-        };
-        ((2..=17).find(|number| Fault::of(*number, at) == Some(self)).unwrap_or(0), at)
-    }
-}
-
-impl fmt::Display for Fault {
-    /// Writes the library's text.
-    fn fmt(&self, f: &mut fmt::Formatter<'_>) -> fmt::Result {
-        let (number, at) = self.number();
-        let mut out = [0; 80];
-        // SAFETY: the pointer and the length are those of an array that is borrowed for the call.
-        let size = unsafe { zs_strerror(number, at, out.as_mut_ptr(), out.len()) };
-        f.write_str(core::str::from_utf8(&out[..size.min(out.len())]).map_err(|_| fmt::Error)?)
-    }
-}
-
-impl core::error::Error for Fault {}
-
-/// Returns whether a call returned that the schedule continues, or the fault that it returned.
-fn continues(number: u32, at: u64) -> Result<bool, Fault> {
+/// Returns whether a call returned that the schedule continues, or the fault that it returned, of a text
+/// if it got one.
+fn continues(number: u32, at: u64, text: Option<&str>) -> Result<bool, Fault> {
     match number {
         0 | 1 => Ok(number == 0),
-        _ => Err(Fault::of(number, at).unwrap_or_else(|| unreachable!("libzsched returned {number}"))),
+        _ => Err(Fault::of(number, at, text)),
     }
 }
 
@@ -160,83 +93,64 @@ fn percent(share: f64) -> Option<u32> {
     (0.0..=1.0).contains(&share).then_some((share * 100.0 + 0.5) as u32)
 }
 
-/// What a driver of a schedule may do, such as a loop that retries. Times are in milliseconds.
-///
-/// By default attempts take 1 millisecond or more, and waits are the schedule's.
-#[derive(Clone, Copy, Debug, PartialEq)]
-pub struct Driver {
-    /// No attempt takes less: 1 or more.
-    pub least: u64,
-    /// No attempt takes more, if there is such a limit: `least` or more.
-    pub most: Option<u64>,
-    /// The share of each wait that jitter may take off, from 0 to 1, in whole percent.
-    pub jitter: f64,
-    /// The longest least wait that a service may ask for, as by `Retry-After`.
-    pub asked: u64,
-    /// How late an attempt may begin; `u64::MAX` is any lateness.
-    pub late: u64,
-}
-
-impl Default for Driver {
-    fn default() -> Driver {
-        Driver { least: 1, most: None, jitter: 0.0, asked: 0, late: 0 }
-    }
-}
-
-/// What a schedule does for every input, with any driver that does what was given, if no moment is
-/// above 999999999999999. Times are in milliseconds.
+/// What a schedule does for every input, if no moment is above 999999999999999 ms.
 #[derive(Clone, Copy, Debug, PartialEq, Eq)]
 pub struct Bounds {
     /// The number of attempts that were examined.
     pub seen: u64,
-    /// The first attempt that can be the last one.
+    /// The schedule isn't done before this attempt: 1 with a budget or a deadline. An error that isn't
+    /// retried may end a call before.
     pub least: u64,
     /// The number of attempts at most; `None` if there is no bound.
     pub most: Option<u64>,
     /// The longest wait after the attempts that were examined.
-    pub longest: u64,
+    pub longest: Duration,
     /// All waits together at most; `None` if there is no bound.
-    pub total: Option<u64>,
+    pub total: Option<Duration>,
     /// Each attempt ends at most this long after the begin of the first; `None` if there is no bound.
-    pub longest_run: Option<u64>,
+    pub longest_run: Option<Duration>,
 }
 
 impl Bounds {
-    /// Returns whether there are at most `most` attempts, and `total` milliseconds of waits together.
-    pub fn within(&self, most: u64, total: u64) -> bool {
+    /// Returns whether there are at most `most` attempts, and `total` of waits together.
+    pub fn within(&self, most: u64, total: Duration) -> bool {
         self.most.is_some_and(|it| it <= most) && self.total.is_some_and(|it| it <= total)
     }
 
-    /// Returns whether each call ends within `run` milliseconds, attempts and waits together.
-    pub fn ends_within(&self, run: u64) -> bool {
+    /// Returns whether each call ends within `run`, attempts and waits together.
+    pub fn ends_within(&self, run: Duration) -> bool {
         self.longest_run.is_some_and(|it| it <= run)
     }
 }
 
-/// Returns the bounds of a text's schedule, of which at most the first `steps` attempts are examined.
-/// Fails with the fault of the text, or `NoDriver`.
+/// Returns the bounds of a text's schedule, of which at most the first 1,000 attempts are examined. They
+/// take 1 millisecond or more, and waits are the schedule's. Fails with the fault of the text.
+///
+/// `Retry::bounds` returns those of a retry with its options. Texts with lists have bounds too.
 ///
 /// ```
-/// use zsched::{bounds, Driver};
+/// use std::time::Duration;
 ///
-/// assert!(bounds("(exponential(100) && recurs(5))", 1000, Driver::default())?.within(6, 3100));
-/// let driver = Driver { most: Some(5000), jitter: 0.5, ..Driver::default() };
-/// assert!(bounds("(exponential(100) && recurs(4))", 1000, driver)?.ends_within(30_000));
+/// assert!(zsched::bounds("(exponential(100) && recurs(5))")?.within(6, Duration::from_millis(3100)));
 /// # Ok::<(), zsched::Fault>(())
 /// ```
-pub fn bounds(text: &str, steps: u64, driver: Driver) -> Result<Bounds, Fault> {
-    let percent = u64::from(percent(driver.jitter).ok_or(Fault::NoDriver)?);
-    let (has_most, most) = (driver.most.is_some().into(), driver.most.unwrap_or(0));
-    // The structs of zsched.h. Each field has 64 bits, and the first is the size in bytes.
-    let driver = [64, driver.least, has_most, most, 100 - percent, 100, driver.asked, driver.late];
-    let (mut found, mut at) = ([80, 0, 0, 0, 0, 0, 0, 0, 0, 0], 0);
+pub fn bounds(text: &str) -> Result<Bounds, Fault> {
+    bounds_of(text, 1000, [1, 0, 0, 100, 100, 0, 0])
+}
+
+/// Returns the bounds for a driver, which has the fields of zsched.h after its size.
+fn bounds_of(text: &str, steps: u64, driver: [u64; 7]) -> Result<Bounds, Fault> {
+    let (mut words, mut found, mut at) = ([64; 8], [80, 0, 0, 0, 0, 0, 0, 0, 0, 0], 0);
+    words[1..].copy_from_slice(&driver);
     // SAFETY: the pointer and the length are those of a text that is borrowed for the call, and the
     // others are variables.
-    continues(unsafe { zs_bounds(text.as_ptr(), text.len(), &driver, steps, &mut found, &mut at) }, at)?;
+    let number = unsafe { zs_bounds(text.as_ptr(), text.len(), &words, steps, &mut found, &mut at) };
+    continues(number, at, Some(text).filter(|_| number != Kind::NoDriver as u32))?;
     let [_, seen, least, has_most, most, longest, has_total, total, has_longest_run, longest_run] = found;
-    let limit = |is_there: u64, value| (is_there == 1).then_some(value);
-    let (most, total) = (limit(has_most, most), limit(has_total, total));
-    Ok(Bounds { seen, least, most, longest, total, longest_run: limit(has_longest_run, longest_run) })
+    let (longest, limit) =
+        (Duration::from_millis(longest), |has, value| (has == 1).then(|| Duration::from_millis(value)));
+    let (total, longest_run) = (limit(has_total, total), limit(has_longest_run, longest_run));
+    Ok(Bounds { seen, least, most: (has_most == 1).then_some(most), longest, total, longest_run })
 }
 
 /// One failed attempt of a loop, by the loop's clock.
@@ -291,19 +205,19 @@ fn saturate(number: u128) -> u64 {
 /// the program, and each has its own state.
 ///
 /// ```
-/// use zsched::{Fault, Schedule};
+/// use zsched::{Kind, Schedule};
 ///
 /// let mut schedule = Schedule::new("(exponential(100) && recurs(5))")?;
 /// assert_eq!(schedule.after(7, 503)?, Some(107));
 /// assert_eq!(schedule.output()?, "(100,0)");
-/// assert_eq!(schedule.after(6, 503), Err(Fault::Falls));
+/// assert_eq!(schedule.after(6, 503), Err(Kind::Falls.into()));
 /// let mut again = Schedule::resume(schedule.text(), schedule.state())?;
 /// assert_eq!(again.after(107, 503)?, Some(307));
 /// assert_eq!(again.fresh().after(7, 503)?, Some(107));
-/// assert_eq!(Schedule::resume("(spaced(100) && recurs(5))", again.state()), Err(Fault::OtherState));
-/// assert_eq!(Schedule::new("forever.collectAll"), Err(Fault::KeepsList));
+/// assert_eq!(Schedule::resume("(spaced(100) && recurs(5))", again.state()), Err(Kind::OtherState.into()));
+/// assert_eq!(Schedule::new("forever.collectAll").map_err(|it| it.kind()), Err(Kind::KeepsList));
 /// assert!(Schedule::new("forever.collectAll.map(size)").is_ok());
-/// # Ok::<(), Fault>(())
+/// # Ok::<(), zsched::Fault>(())
 /// ```
 #[derive(Clone, Debug, PartialEq, Eq)]
 pub struct Schedule {
@@ -318,23 +232,33 @@ impl Schedule {
         let (mut size, mut state_size, mut at) = (0, 0, 0);
         // SAFETY: the pointer and the length are those of a text that is borrowed for the call, and
         // the others are variables.
-        continues(unsafe { zs_program_size(text.as_ptr(), text.len(), &mut size, &mut state_size, &mut at) }, at)?;
+        let number = unsafe { zs_program_size(text.as_ptr(), text.len(), &mut size, &mut state_size, &mut at) };
+        continues(number, at, Some(text))?;
         let mut program = vec![0; size];
         // SAFETY: as above, and the words are borrowed for the call.
-        continues(unsafe { zs_compile(text.as_ptr(), text.len(), program.as_mut_ptr(), size, &mut at) }, at)?;
+        let number = unsafe { zs_compile(text.as_ptr(), text.len(), program.as_mut_ptr(), size, &mut at) };
+        continues(number, at, Some(text))?;
         Ok(Schedule { of: Arc::new((text.to_owned(), program)), state: vec![0; state_size] }.fresh())
     }
 
     /// Returns the schedule of a text with a state that `state` returned. Fails with the fault of the
-    /// text, or `OtherState`.
+    /// text, `OtherVersion` or `OtherState`.
     ///
-    /// Words that were changed after the first aren't detected.
+    /// Words that were changed after those that identify it aren't detected.
     pub fn resume(text: &str, state: &[u64]) -> Result<Schedule, Fault> {
-        let schedule = Schedule::new(text)?;
-        if state.len() != schedule.state.len() || state[0] != schedule.state[0] {
-            return Err(Fault::OtherState);
+        let (schedule, mut size) = (Schedule::new(text)?, 0);
+        let (program, len) = (&schedule.of.1, state.len());
+        // SAFETY: the pointers and lengths are those of words that are borrowed for the call, and no byte
+        // is written to a buffer of length 0.
+        let number = unsafe {
+            let none = core::ptr::null_mut();
+            zs_output(program.as_ptr(), program.len(), state.as_ptr(), len, none, 0, &mut size)
+        };
+        match number {
+            0 | 2 if len == schedule.state.len() => Ok(Schedule { state: state.to_owned(), ..schedule }),
+            18 => Err(Kind::OtherVersion.into()),
+            _ => Err(Kind::OtherState.into()),
         }
-        Ok(Schedule { state: state.to_owned(), ..schedule })
     }
 
     /// Returns a schedule of the same program, before its first step.
@@ -342,7 +266,7 @@ impl Schedule {
         let (of, mut state) = (self.of.clone(), vec![0; self.state.len()]);
         // SAFETY: the pointers and lengths are those of words that are borrowed for the call.
         let number = unsafe { zs_program_begin(of.1.as_ptr(), of.1.len(), state.as_mut_ptr(), state.len()) };
-        continues(number, 0).expect("a program and the size of its state");
+        continues(number, 0, None).expect("a program and the size of its state");
         Schedule { of, state }
     }
 
@@ -353,7 +277,7 @@ impl Schedule {
 
     /// Returns the words of the state.
     ///
-    /// Their number depends on the text alone. The first identifies the schedule.
+    /// Their number depends on the text alone. The first ones identify the schedule.
     pub fn state(&self) -> &[u64] {
         &self.state
     }
@@ -381,7 +305,7 @@ impl Schedule {
         // others are variables. Only the state is borrowed mutably, so they overlap nothing.
         let number =
             unsafe { zs_plan(program.as_ptr(), program.len(), state.as_mut_ptr(), state.len(), &turn, &mut begin) };
-        Ok(continues(number, 0)?.then_some(Duration::from_nanos(begin)))
+        Ok(continues(number, 0, None)?.then_some(Duration::from_nanos(begin)))
     }
 
     /// Makes a step at a moment in milliseconds and with an input. Returns the moment at which the next
@@ -395,7 +319,7 @@ impl Schedule {
         let number = unsafe {
             zs_program_step(program.as_ptr(), program.len(), words, len, moment, input, &mut next, &mut visits)
         };
-        Ok(continues(number, 0)?.then_some(next))
+        Ok(continues(number, 0, None)?.then_some(next))
     }
 
     /// Returns the text of the last step's output. Fails with `NoStep` before the first step.
@@ -407,7 +331,7 @@ impl Schedule {
             let number = unsafe {
                 zs_output(program.as_ptr(), program.len(), state.as_ptr(), state.len(), room, len, &mut size)
             };
-            continues(number, 0)?;
+            continues(number, 0, None)?;
             if size < len {
                 out.truncate(size);
                 return Ok(String::from_utf8(out).expect("an output's text is ASCII"));

@@ -184,12 +184,19 @@ longest-within s a b never promises [] driven le = absurd driven
 longest-within s a b never promises (p ∷ h) driven le =
     promises.longest (p ∷ h) driven le (last_wait s (p ∷ h)) (waits-last s a p h never driven)
 
+every-within : (s : Schedule) (a : Driver) (b : Bounds) → IsNeverEarly a.waits → Promises s a b →
+    (w : ℕ) → b.every ≡ Some w → (h : History) → IsDriven s a h → last_wait s h ≤ w
+every-within s a b never promises w e [] driven = absurd driven
+every-within s a b never promises w e (p ∷ h) driven =
+    promises.every w e (p ∷ h) driven (last_wait s (p ∷ h)) (waits-last s a p h never driven)
+
 -- the schedule's waits are within the bounds
 pub bounds-waits : (s : Schedule) (a : Driver) (b : Bounds) → IsNeverEarly a.waits → Promises s a b
     → BoundsWaits s a b
 bounds-waits s a b never promises =
     record {
       longest = longest-within s a b never promises;
+      every = every-within s a b never promises;
       total =
           all-within s a b never promises;
     }

@@ -1,5 +1,6 @@
 -- Spans, tests of their numbers, and facts that are joined by `or` and `and`.
-use Rattle.std.proofs.Common.{◌≡◌, ℕ, ◌≤◌, Bool, true, false, not, ◌&&◌, ◌||◌, nat_lt, nat_le, nat_eq, Option, Some, None, refl, ap, arith}
+use Rattle.std.proofs.Common.{◌≡◌, ℕ, ◌≤◌, Bool, true, false, not, ◌&&◌, ◌||◌, nat_lt, nat_le}
+use Rattle.std.proofs.Common.{nat_eq, Option, Some, None, refl, ap, arith}
 use Rattle.zs_term.specs.Output.{compares, passes}
 use Rattle.zs_term.specs.declared.term.Test.{Test}
 use Rattle.zs_term.specs.declared.term.Cmp.{Cmp}
@@ -94,23 +95,28 @@ not-false true e = refl
 not-false false e = cc
 
 -- a number between two equal ones is that one
-eq-between : (l h n k : ℕ) → l ≤ n → n ≤ h → nat_eq l k ≡ true → nat_eq h k ≡ true → nat_eq n k ≡ true
+eq-between : (l h n k : ℕ) → l ≤ n → n ≤ h → nat_eq l k ≡ true → nat_eq h k ≡ true →
+    nat_eq n k ≡ true
 eq-between l h n k low high e f = grind arith
 
 -- if a number of a span differs from another one, the span isn't that one alone
-ne-may : (b c : Bool) (l h n k : ℕ) → l ≤ n → n ≤ h → nat_eq l k ≡ b → nat_eq h k ≡ c → nat_eq n k ≡ false → not (b && c) ≡ true
+ne-may : (b c : Bool) (l h n k : ℕ) → l ≤ n → n ≤ h → nat_eq l k ≡ b → nat_eq h k ≡ c →
+    nat_eq n k ≡ false → not (b && c) ≡ true
 ne-may false c l h n k low high e f g = refl
 ne-may true false l h n k low high e f g = refl
 ne-may true true l h n k low high e f g = let same = eq-between l h n k low high e f in cc
 
 -- a comparison that holds of a number of a span may hold
-pub compare-may : (c : Cmp) (n : ℕ) (s : Span) (k : ℕ) → IsIn n s → compares c n k ≡ true → may_compare c s k ≡ true
+pub compare-may : (c : Cmp) (n : ℕ) (s : Span) (k : ℕ) → IsIn n s → compares c n k ≡ true →
+    may_compare c s k ≡ true
 compare-may Lt n s k h e = lt-may s.low n k h.low e
 compare-may Le n s k h e = le-may s.low n k h.low e
 compare-may Eq n s k h e =
-    and-both (nat_le s.low k) (nat_le k s.high) (le-may s.low n k h.low (eq-low n k e)) (ge-may s.high n k h.high (eq-high n k e))
+    and-both (nat_le s.low k) (nat_le k s.high) (le-may s.low n k h.low (eq-low n k e))
+    (ge-may s.high n k h.high (eq-high n k e))
 compare-may Ne n s k h e =
-    ne-may (nat_eq s.low k) (nat_eq s.high k) s.low s.high n k h.low h.high refl refl (not-true (nat_eq n k) e)
+    ne-may (nat_eq s.low k) (nat_eq s.high k) s.low s.high n k h.low h.high refl refl
+    (not-true (nat_eq n k) e)
 compare-may Gt n s k h e = gt-may s.high n k h.high e
 compare-may Ge n s k h e = ge-may s.high n k h.high e
 
@@ -124,11 +130,14 @@ compare-opposite Gt n k e = not-lt k n e
 compare-opposite Ge n k e = not-le k n e
 
 -- a test that passes may pass
-pub test-may_pass : (t : Test) (n : ℕ) (o : Option Span) → IsNumberIn n o → passes t n ≡ true → may_pass t o ≡ true
+pub test-may_pass : (t : Test) (n : ℕ) (o : Option Span) → IsNumberIn n o → passes t n ≡ true →
+    may_pass t o ≡ true
 test-may_pass t n None h e = refl
 test-may_pass t n (Some s) h e = compare-may t.cmp n s t.than h e
 
 -- a test that fails may fail
-pub test-may_fail : (t : Test) (n : ℕ) (o : Option Span) → IsNumberIn n o → passes t n ≡ false → may_fail t o ≡ true
+pub test-may_fail : (t : Test) (n : ℕ) (o : Option Span) → IsNumberIn n o → passes t n ≡ false →
+    may_fail t o ≡ true
 test-may_fail t n None h e = refl
-test-may_fail t n (Some s) h e = compare-may (opposite t.cmp) n s t.than h (compare-opposite t.cmp n t.than e)
+test-may_fail t n (Some s) h e =
+    compare-may (opposite t.cmp) n s t.than h (compare-opposite t.cmp n t.than e)

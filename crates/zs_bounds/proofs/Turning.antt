@@ -36,7 +36,8 @@ pub turn_results : (p q : Bool) (a b f x y start : AnswerRange) →
 turn_results p q a b f x y start first second new =
     ap (λ z. turns_joined q x y z) new
     ∙ ap (λ z. turns_joined q z y (results_if z.decision.stops f)) first
-    ∙ ap (λ z. turns_joined q (results_if p a) z (results_if (results_if p a).decision.stops f)) second
+    ∙ ap (λ z. turns_joined q (results_if p a) z (results_if (results_if p a).decision.stops f))
+    second
     ∙ joined p q a b f
 
 -- ---- states after a step

@@ -21,17 +21,18 @@ use Rattle.zs_bounds.specs.LatestStep.{smaller_limit, greater_limit}
 use Rattle.zs_bounds.specs.BoundsOf.{never_stops, leaf_wait, either_wait, wait_limit}
 use Rattle.zs_bounds.proofs.GoingOn.{goes-on}
 
-only_if-wait : (m w : ℕ) (b : Bool) (d : Decision) → wait_of m d ≤ w → wait_of m (only_if b d) ≤ w
+pub only_if-wait : (m w : ℕ) (b : Bool) (d : Decision) → wait_of m d ≤ w →
+    wait_of m (only_if b d) ≤ w
 only_if-wait m w true d le = le
 only_if-wait m w false d le = omega arith
 
-later-wait : (m w : ℕ) (d e : Decision) → wait_of m d ≤ w → wait_of m e ≤ w →
+pub later-wait : (m w : ℕ) (d e : Decision) → wait_of m d ≤ w → wait_of m e ≤ w →
     wait_of m (later_of d e) ≤ w
 later-wait m w (Next x) (Next y) s t = omega (arith, s, t)
 later-wait m w (Next x) Stop s t = omega arith
 later-wait m w Stop e s t = omega arith
 
-earlier-wait : (m w : ℕ) (d e : Decision) → wait_of m d ≤ w → wait_of m e ≤ w →
+pub earlier-wait : (m w : ℕ) (d e : Decision) → wait_of m d ≤ w → wait_of m e ≤ w →
     wait_of m (earlier_of d e) ≤ w
 earlier-wait m w (Next x) (Next y) s t = omega (arith, s, t)
 earlier-wait m w (Next x) Stop s t = s
@@ -63,7 +64,7 @@ next_run-wait p (q ∷ (r ∷ h)) =
     ((q.0 - first_moment (r ∷ h)) % p)
 
 -- the waits of results, after every history with a step
-abbrev WaitsUpTo : (History → Answer) → ℕ → Type 0
+abbrev pub WaitsUpTo : (History → Answer) → ℕ → Type 0
 WaitsUpTo a w = (p : ℕ × ℕ) (h : History) → wait_of p.0 (a (p ∷ h)).decision ≤ w
 
 leaf-limit : (l : Leaf) (w : ℕ) → leaf_wait l ≡ Some w → WaitsUpTo (leaf_answer l) w
@@ -84,14 +85,14 @@ leaf-limit (counted Windowed n) w e p h =
 leaf-limit (exponential b f) w e p h = absurd cc
 
 -- the greater of two limits
-record Greater (x y : Option ℕ) (w : ℕ) : Type 0 where
+pub record Greater (x y : Option ℕ) (w : ℕ) : Type 0 where
   pub u : ℕ
   pub v : ℕ
   pub first : x ≡ Some u
   pub second : y ≡ Some v
   pub is : max u v ≡ w
 
-greater-is : (x y : Option ℕ) (w : ℕ) → greater_limit x y ≡ Some w → Greater x y w
+pub greater-is : (x y : Option ℕ) (w : ℕ) → greater_limit x y ≡ Some w → Greater x y w
 greater-is None y w e = absurd cc
 greater-is (Some u) None w e = absurd cc
 greater-is (Some u) (Some v) w e = record { u = u; v = v; first = refl; second = refl; is = cc }

@@ -1,6 +1,7 @@
 -- What bounds promise: facts about every history that a driver can make with a schedule. No loop
 -- and no interval is named here.
-use Rattle.std.specs.Prelude.{◌≡◌, ℕ, ◌+◌, ◌-◌, ◌<◌, ◌≤◌, true, Some, List, [], ◌∷◌, length}
+use Rattle.std.specs.Prelude.{◌≡◌, ℕ, ◌+◌, ◌-◌, ◌<◌, ◌≤◌, true, false, Some, List, []}
+use Rattle.std.specs.Prelude.{◌∷◌, length}
 use Rattle.std.specs.List.{sum}
 use Rattle.zs_term.specs.Schedule.{Schedule}
 use Rattle.zs_step.specs.declared.decision.Decision.{Decision}
@@ -52,6 +53,15 @@ NextEndsAt s d begun (p ∷ h) m =
 abbrev pub NeverGivesUp : Schedule → Type 0
 NeverGivesUp s = (p : ℕ × ℕ) (h : History) → is_next (answer_of s (p ∷ h)).decision ≡ true
 
+-- At most n attempts begin within a time of the begin of the first one, that one too. After a
+-- history the next one begins at the end of the driver's wait, if its last step goes on.
+pub record BeginsWithin (s : Schedule) (d : Driver) (time n : ℕ) : Type 0 where
+  pub first : 1 ≤ n
+  pub later : (begun u : ℕ) (h : History) → IsDriven s d h → IsAttempt d begun (first_moment h)
+      → is_next (answer_of s h).decision ≡ true
+      → WaitsFor d.waits (last_moment h) (answer_of s h).decision u
+      → last_moment h + u ≤ begun + time → length h + 1 ≤ n
+
 -- What is promised of every history that a driver can make with a schedule.
 pub record Promises (s : Schedule) (d : Driver) (b : Bounds) : Type 0 where
   -- with a most, no history has more steps, and at that step the schedule is done
@@ -64,6 +74,9 @@ pub record Promises (s : Schedule) (d : Driver) (b : Bounds) : Type 0 where
   -- no wait of a driver after a step that was looked at is longer
   pub longest : (h : History) → IsDriven s d h → length h ≤ b.seen → (u : ℕ)
       → WaitsFor d.waits (last_moment h) (answer_of s h).decision u → u ≤ b.longest
+  -- with a limit of every wait, no wait of a driver after any step is longer
+  pub every : (w : ℕ) → b.every ≡ Some w → (h : History) → IsDriven s d h → (u : ℕ)
+      → WaitsFor d.waits (last_moment h) (answer_of s h).decision u → u ≤ w
   -- with a total, all waits of a driver are no longer in all
   pub total : (t : ℕ) → b.total ≡ Some t → (h : History) → IsDriven s d h → (us : List ℕ)
       → HasWaits s d h us → sum us ≤ t
@@ -73,12 +86,16 @@ pub record Promises (s : Schedule) (d : Driver) (b : Bounds) : Type 0 where
   -- and so does every attempt that begins, even if no clock goes on to its end
   pub next : (r : ℕ) → b.longest_run ≡ Some r → (begun : ℕ) (h : History) (m : ℕ)
       → NextEndsAt s d begun h m → m ≤ begun + r
-  -- with a most, every step was looked at
-  pub whole : (k : ℕ) → b.most ≡ Some k → b.seen ≡ k
+  -- unless the numbers are cut, no history has more steps than were looked at, and with a most that
+  -- is their number
+  pub whole : b.is_cut ≡ false → (h : History) → IsDriven s d h → length h ≤ b.seen
+  pub seen : b.is_cut ≡ false → (k : ℕ) → b.most ≡ Some k → b.seen ≡ k
 
 -- What bounds say of the schedule's waits, if a driver is never early.
 pub record BoundsWaits (s : Schedule) (d : Driver) (b : Bounds) : Type 0 where
   -- no wait of the schedule after a step that was looked at is longer
   pub longest : (h : History) → IsDriven s d h → length h ≤ b.seen → last_wait s h ≤ b.longest
+  -- with a limit of every wait, none of its waits is longer
+  pub every : (w : ℕ) → b.every ≡ Some w → (h : History) → IsDriven s d h → last_wait s h ≤ w
   -- with a total, all its waits are no longer in all
   pub total : (t : ℕ) → b.total ≡ Some t → (h : History) → IsDriven s d h → total_wait s h ≤ t

@@ -16,7 +16,8 @@ use Rattle.zs_bounds.specs.declared.span.Span.{Span}
 use Rattle.zs_bounds.specs.declared.decisions.Decisions.{Decisions}
 use Rattle.zs_bounds.specs.Driven.{max_tick, shortest}
 use Rattle.zs_bounds.specs.DecisionRange.{decisions}
-use Rattle.zs_bounds.specs.LatestStep.{latest_step, smaller_limit, greater_limit}
+use Rattle.zs_bounds.specs.LatestStep.{limit_if, limit_sum, reads_time, smaller_limit}
+use Rattle.zs_bounds.specs.LatestStep.{greater_limit}
 use Rattle.zs_bounds.specs.Span.{span}
 use Rattle.zs_bounds.specs.StateRange.{StateRange, first_range, first_state, next_range, next_state}
 
@@ -75,6 +76,47 @@ wait_limit (two either a b) =
 wait_limit (two and_then a b) = greater_limit (wait_limit a) (wait_limit b)
 wait_limit (over s m) = wait_limit s
 
+-- the longest wait of a driver if the schedule waits for w milliseconds
+abbrev pub longest_wait : Waits → ℕ → ℕ
+longest_wait v w = saturated (max (div_ceil (w * v.most_percent) 100) v.asked + v.late)
+
+-- a limit of a driver's waits, by one of the schedule's
+abbrev pub real_limit : Driver → Option ℕ → Option ℕ
+real_limit a None = None
+real_limit a (Some w) = Some (longest_wait a.waits w)
+
+-- a limit of the time from a step up to the next one: of a wait and an attempt
+abbrev pub gap_limit : Driver → Option ℕ → Option ℕ
+gap_limit d w = limit_sum (real_limit d w) d.most
+
+-- ---- a limit of the time from the first step up to one that goes on, by a schedule's form
+
+-- In `andThenEither` the second part begins a wait and an attempt after the last step at which the
+-- first part goes on, at the latest. `beside` limits the waits of the parts that are stepped beside
+-- the schedule.
+abbrev pub latest_step : Driver → Option ℕ → Schedule → Option ℕ
+latest_step d beside (leaf l) = None
+latest_step d beside (two both a b) =
+    smaller_limit (latest_step d (greater_limit beside (wait_limit b)) a)
+    (latest_step d (greater_limit beside (wait_limit a)) b)
+latest_step d beside (two either a b) =
+    greater_limit (latest_step d (greater_limit beside (wait_limit b)) a)
+    (latest_step d (greater_limit beside (wait_limit a)) b)
+latest_step d beside (two and_then a b) =
+    limit_sum
+    (limit_sum (latest_step d beside a) (gap_limit d (greater_limit beside (wait_limit a))))
+    (latest_step d beside b)
+latest_step d beside (over s (while_input t)) = latest_step d beside s
+latest_step d beside (over s (while_output k t)) =
+    smaller_limit (latest_step d beside s) (limit_if (reads_time k s) t)
+latest_step d beside (over s collect_all) = latest_step d beside s
+latest_step d beside (over s (mapped f)) = latest_step d beside s
+latest_step d beside (over s (reset_when k t)) = None
+
+-- of a schedule with none beside it
+abbrev pub latest_of : Schedule → Driver → Option ℕ
+latest_of s d = latest_step d (Some 0) s
+
 -- ---- step by step
 
 -- the longest wait of some decisions
@@ -126,64 +168,63 @@ longer_run l (Some k) (Some w) (Some r) =
 -- before the first step, which is the end of the first attempt
 abbrev pub no_bounds : Driver → Bounds
 no_bounds a =
-    record { seen = 0; least = 1; most = None; longest = 0; total = Some 0; longest_run = a.most }
+    record {
+      seen = 0;
+      is_cut = true;
+      least = 1;
+      most = None;
+      longest = 0;
+      every = None;
+      total = Some 0;
+      longest_run = a.most;
+    }
 
 -- One more step, with what it may decide, by a limit of the time from the first step up to it if it
 -- goes on.
 abbrev pub with_step : Option ℕ → Driver → Decisions → Bounds → Bounds
 with_step l a d b = record {
   seen = b.seen + 1;
+  is_cut = true;
   least = (if nat_lt b.seen b.least && not d.stops then saturated (b.least + 1) else b.least);
   most = None;
   longest = max b.longest (longest_in d.waits);
+  every = None;
   total = longer_total (waits_limit a l b.seen) (longest_in d.waits) b.total;
   longest_run = longer_run l a.most d.waits b.longest_run;
 }
 
--- the last step that was seen is the last that there may be
+-- no step follows those that were seen
+abbrev pub complete : Bounds → Bounds
+complete b = record b { is_cut = false; every = Some b.longest }
+
+-- and the last of them is the last that there may be
 abbrev pub ended : Bounds → Bounds
-ended b = record {
-  seen = b.seen;
-  least = b.least;
-  most = Some b.seen;
-  longest = b.longest;
-  total = b.total;
-  longest_run = b.longest_run;
-}
+ended b = record (complete b) { most = Some b.seen }
 
 -- the shortest wait of a driver if the schedule waits for w milliseconds
 abbrev pub shortest_wait : Waits → ℕ → ℕ
 shortest_wait v w = saturated (w * v.least_percent / 100)
 
--- and the longest one
-abbrev pub longest_wait : Waits → ℕ → ℕ
-longest_wait v w = saturated (max (div_ceil (w * v.most_percent) 100) v.asked + v.late)
-
--- a limit of a driver's waits, by one of the schedule's
-abbrev pub real_limit : Driver → Option ℕ → Option ℕ
-real_limit a None = None
-real_limit a (Some w) = Some (longest_wait a.waits w)
-
--- All waits, by a limit of the time up to a step that goes on and one of each wait.
-abbrev pub total_limit : Option ℕ → Option ℕ → Option ℕ
-total_limit None w = None
-total_limit (Some l) None = None
-total_limit (Some l) (Some w) = sum_within (Some l) w
-
--- The longest run, by these and the longest attempt.
+-- The longest run, by all waits and the longest attempt.
 abbrev pub whole_run : Option ℕ → Option ℕ → Option ℕ
 whole_run None t = None
 whole_run (Some k) t = sum_within (sum_within t k) k
 
+-- A limit of the steps, by one of the time up to a step that goes on: each step before it has an
+-- attempt after it, and one more step may follow.
+abbrev pub most_limit : Driver → Option ℕ → Option ℕ
+most_limit a None = None
+most_limit a (Some l) = sum_within (Some (l / shortest a)) 2
+
 -- There may be more steps than were seen. What limits their time and their waits limits them all.
 abbrev pub unended : Option ℕ → Option ℕ → Driver → Bounds → Bounds
-unended l w a b = record {
-  seen = b.seen;
-  least = b.least;
-  most = None;
-  longest = b.longest;
-  total = total_limit l (real_limit a w);
-  longest_run = whole_run a.most (total_limit l (real_limit a w));
+unended l w a b = record b {
+  is_cut = true;
+  most = most_limit a l;
+  every = real_limit a w;
+  -- all waits: those before a step that goes on, and the one after it
+  total = limit_sum l (real_limit a w);
+  longest_run = whole_run a.most (limit_sum l (real_limit a w));
 }
 
 -- the longest time of a wait and an attempt: at most a whole clock
@@ -206,7 +247,7 @@ time_between a w = span (saturated (w.low + shortest a)) (longest_time a.most w.
 
 -- the bounds so far, if no later step is within a clock; otherwise the later steps decide
 abbrev pub unless_past : Bool → Bounds → (Unit {0} → Bounds) → Bounds
-unless_past true b rest = b
+unless_past true b rest = complete b
 unless_past false b rest = rest tt
 
 -- after a step: the end, if it can't go on; otherwise what follows after the times up to the next
@@ -220,12 +261,12 @@ after_waits a (Some w) passed b rest =
 -- The bounds of at most n more steps, by the states after the next one, what it may decide, and the
 -- least time up to it.
 abbrev pub bounds_from : Schedule → Driver → ℕ → StateRange → Decisions → ℕ → Bounds → Bounds
-bounds_from s a zero c d passed b = unended (latest_step s) (wait_limit s) a b
+bounds_from s a zero c d passed b = unended (latest_of s a) (wait_limit s) a b
 bounds_from s a (suc n) c d passed b =
     after_waits a (real_decisions a d).waits passed
-    (with_step (latest_step s) a (real_decisions a d) b)
+    (with_step (latest_of s a) a (real_decisions a d) b)
     (λ later time. bounds_from s a n (next_state s c later) (next_range s c later).decision time
-    (with_step (latest_step s) a (real_decisions a d) b))
+    (with_step (latest_of s a) a (real_decisions a d) b))
 
 -- the bounds of at most `steps` steps
 abbrev pub bounds_of : Schedule → Driver → ℕ → Bounds

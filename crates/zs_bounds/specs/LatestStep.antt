@@ -1,6 +1,8 @@
--- How late a step may be that goes on, by a schedule's form alone: a limit of the time since the
--- first step, as 59999 ms of `elapsed.whileOutput(< 60000)`.
-use Rattle.std.specs.Prelude.{ℕ, ◌-◌, min, max, Bool, true, false, Option, Some, None}
+-- Limits that a schedule's form shows, and how they are joined: of the time since the first step up
+-- to a step that goes on, as 59999 ms of `elapsed.whileOutput(< 60000)`.
+use Rattle.std.specs.Prelude.{ℕ, ◌+◌, ◌-◌, min, max, nat_le, Bool, true, false, if◌then◌else◌}
+use Rattle.std.specs.Prelude.{Option, Some, None}
+use Rattle.zs_term.specs.Saturating.{max_moment}
 use Rattle.zs_term.specs.Schedule.{Schedule, Leaf, plain, counted, exponential, leaf, two, over}
 use Rattle.zs_term.specs.Schedule.{both, either, and_then}
 use Rattle.zs_term.specs.Schedule.{while_input, while_output, collect_all, mapped, reset_when}
@@ -92,15 +94,8 @@ greater_limit None y = None
 greater_limit (Some x) None = None
 greater_limit (Some x) (Some y) = Some (max x y)
 
--- A limit of the time from the first step up to one that goes on, if a schedule's form shows one.
-abbrev pub latest_step : Schedule → Option ℕ
-latest_step (leaf l) = None
-latest_step (two both a b) = smaller_limit (latest_step a) (latest_step b)
-latest_step (two either a b) = greater_limit (latest_step a) (latest_step b)
-latest_step (two and_then a b) = None
-latest_step (over s (while_input t)) = latest_step s
-latest_step (over s (while_output k t)) =
-    smaller_limit (latest_step s) (limit_if (reads_time k s) t)
-latest_step (over s collect_all) = latest_step s
-latest_step (over s (mapped f)) = latest_step s
-latest_step (over s (reset_when k t)) = None
+-- the sum of two limits, if there are both and it is at most the greatest number
+abbrev pub limit_sum : Option ℕ → Option ℕ → Option ℕ
+limit_sum None y = None
+limit_sum (Some x) None = None
+limit_sum (Some x) (Some y) = (if nat_le (x + y) max_moment then Some (x + y) else None)

@@ -3,8 +3,7 @@
 ghost use Rattle.std.specs.Prelude.{◌≡◌, IfOk};
 ghost use Rattle.zs_term.specs.Schedule.{schedule_of};
 ghost use Rattle.zs_bounds.specs.Bounds.{Promises};
-ghost use Rattle.zs_bounds.specs.BoundsOf.{bounds_of, wait_limit};
-ghost use Rattle.zs_bounds.specs.LatestStep.{latest_step};
+ghost use Rattle.zs_bounds.specs.BoundsOf.{bounds_of, latest_of, wait_limit};
 ghost use Rattle.zs_bounds.specs.Node.{KnowsFirsts, bounds_at, node_schedule};
 
 use crate::decisions::Decisions;
@@ -34,7 +33,7 @@ pub fn bounds(
     ensures value { IfOk result (λ b. b ≡ bounds_of (schedule_of checked.now) driver steps) }
 {
     let (mut node, first) = node_of(alloc, checked.term())?;
-    let limit = latest_step(checked.term());
+    let limit = latest_step(checked.term(), driver, Some(0));
     let wait = wait_limit(checked.term());
     bounds_from(alloc, &mut node, driver, limit, wait, first.1, steps)
 }
@@ -51,7 +50,7 @@ fn bounds_from(
     first: Decisions,
     steps: u64,
 ) -> Result<Bounds, AllocError>
-    requires limit { limit ≡ latest_step (node_schedule node.old) }
+    requires limit { limit ≡ latest_of (node_schedule node.old) driver }
     requires longest { longest ≡ wait_limit (node_schedule node.old) }
     requires firsts { KnowsFirsts node.old }
     ensures value { IfOk result (λ b. b ≡ bounds_at node.old driver steps first) }
@@ -68,7 +67,7 @@ fn bounds_from(
         let later = driver.time_between(wait);
         passed = passed.saturating_add(later.low);
         if passed > MAX_TICK {
-            return Ok(told);
+            return Ok(told.complete());
         }
         let answer = step(Next { alloc, later }, node)?;
         decision = answer.1;

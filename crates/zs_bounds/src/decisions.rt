@@ -54,7 +54,7 @@ impl Decisions {
         )
     }
 
-    // Those of two that both have to go on.
+    // The decisions of `A && B`, which goes on while both parts do, after the later of both.
     pub(crate) fn both(self, other: Decisions) -> Decisions
         ensures value { result ≡ both_decide self other }
     {
@@ -62,7 +62,8 @@ impl Decisions {
         Decisions::new(self.stops || other.stops, waits)
     }
 
-    // Those of two of which one has to go on: with the wait of one alone if the other may be done.
+    // The decisions of `A || B`, which goes on while one part does: with the wait of one alone if
+    // the other may be done.
     pub(crate) fn either(self, other: Decisions) -> Decisions
         ensures value { result ≡ either_decides self other }
     {
@@ -121,20 +122,14 @@ fn waits_if(holds: bool, waits: Option<Span>) -> Option<Span>
 pub(crate) fn may_pass(test: Test, span: Option<Span>) -> bool
     ensures value { result ≡ may_pass test span }
 {
-    match span {
-        None => true,
-        Some(s) => may_compare(test.cmp, s, test.than),
-    }
+    span.map_or(true, |s| may_compare(test.cmp, s, test.than))
 }
 
 // Whether it may fail.
 pub(crate) fn may_fail(test: Test, span: Option<Span>) -> bool
     ensures value { result ≡ may_fail test span }
 {
-    match span {
-        None => true,
-        Some(s) => may_compare(opposite(test.cmp), s, test.than),
-    }
+    span.map_or(true, |s| may_compare(opposite(test.cmp), s, test.than))
 }
 
 // Whether a comparison may hold of a number of a span.

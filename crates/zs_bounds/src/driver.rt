@@ -2,10 +2,12 @@
 
 ghost use Rattle.std.specs.Prelude.{◌≡◌};
 ghost use Rattle.zs_bounds.specs.Driven.{exact_driver, shortest};
-ghost use Rattle.zs_bounds.specs.BoundsOf.{time_between, longest_time, waits_limit, real_decisions};
+ghost use Rattle.zs_bounds.specs.BoundsOf.{time_between, longest_time, waits_limit, gap_limit, real_decisions};
 
 use crate::decisions::Decisions;
+use crate::latest::limit_sum;
 use crate::span::{MAX_TICK, Span};
+use crate::told::real_limit;
 use crate::waits::Waits;
 
 /// What a driver may do. A driver is whatever steps a schedule when an attempt has ended.
@@ -32,7 +34,7 @@ impl Driver {
     }
 
     // The shortest attempt.
-    fn shortest(self) -> u64
+    pub(crate) fn shortest(self) -> u64
         ensures value { result ≡ shortest self }
     {
         self.least.max(1)
@@ -54,6 +56,13 @@ impl Driver {
         limit.map(|time| time.saturating_sub(attempts))
     }
 
+    // A limit of the time from a step up to the next one, by one of the schedule's waits.
+    pub(crate) fn gap(self, wait: Option<u64>) -> Option<u64>
+        ensures value { result ≡ gap_limit self wait }
+    {
+        limit_sum(real_limit(self, wait), self.most)
+    }
+
     // The time from a step up to the next one: a wait and an attempt.
     pub(crate) fn time_between(self, wait: Span) -> Span
         ensures value { result ≡ time_between self wait }
@@ -69,8 +78,8 @@ impl Driver {
 fn longest_time(most: Option<u64>, wait: u64) -> u64
     ensures value { result ≡ longest_time most wait }
 {
-    match most {
-        None => MAX_TICK,
-        Some(duration) => wait.saturating_add(duration).min(MAX_TICK),
-    }
+    most.map_or(
+        MAX_TICK,
+        |duration| wait.saturating_add(duration).min(MAX_TICK),
+    )
 }

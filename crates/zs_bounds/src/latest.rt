@@ -2,10 +2,11 @@
 
 ghost use Rattle.std.specs.Prelude.{◌≡◌};
 ghost use Rattle.zs_term.specs.Schedule.{schedule_of};
-ghost use Rattle.zs_bounds.specs.BoundsOf.{either_wait, wait_limit};
-ghost use Rattle.zs_bounds.specs.LatestStep.{shows_time, reads_time, limit_if, smaller_limit, greater_limit, latest_step};
+ghost use Rattle.zs_bounds.specs.BoundsOf.{either_wait, latest_step, wait_limit};
+ghost use Rattle.zs_bounds.specs.LatestStep.{shows_time, reads_time, limit_if, limit_sum, smaller_limit, greater_limit};
 ghost use Rattle.zs_bounds.specs.Place.{spot_of};
 
+use crate::driver::Driver;
 use crate::endless::never_stops;
 use zs_term::{Cmp, Func, Pick, Term, Test};
 
@@ -18,18 +19,39 @@ enum Place<'a> {
 }
 
 // A limit of the time from the first step up to one that goes on, if the form of a term shows one.
-pub(crate) fn latest_step(term: &Term) -> Option<u64>
-    ensures value { result ≡ latest_step (schedule_of term.now) }
+// `beside` is one of the waits of the parts that are stepped beside it.
+pub(crate) fn latest_step(term: &Term, driver: Driver, beside: Option<u64>) -> Option<u64>
+    ensures value { result ≡ latest_step driver beside (schedule_of term.now) }
 {
     match term {
-        Term::Both(a, b) => smaller_limit(latest_step(a), latest_step(b)),
-        Term::Either(a, b) => greater_limit(latest_step(a), latest_step(b)),
-        Term::WhileOutput(s, pick, test) => {
-            smaller_limit(latest_step(s), limit_if(reads_time(*pick, s), *test))
+        Term::Both(a, b) => {
+            let first = latest_step(a, driver, greater_limit(beside, wait_limit(b)));
+            smaller_limit(
+                first,
+                latest_step(b, driver, greater_limit(beside, wait_limit(a))),
+            )
         }
-        Term::WhileInput(s, _) | Term::CollectAll(s) | Term::Map(s, _) => latest_step(s),
-        // The other part, or the schedule anew, may go on later.
-        Term::AndThen(_, _) | Term::ResetWhen(_, _, _) => None,
+        Term::Either(a, b) => {
+            let first = latest_step(a, driver, greater_limit(beside, wait_limit(b)));
+            greater_limit(
+                first,
+                latest_step(b, driver, greater_limit(beside, wait_limit(a))),
+            )
+        }
+        Term::AndThen(a, b) => {
+            let gap = driver.gap(greater_limit(beside, wait_limit(a)));
+            let begins = limit_sum(latest_step(a, driver, beside), gap);
+            limit_sum(begins, latest_step(b, driver, beside))
+        }
+        Term::WhileOutput(s, pick, test) => {
+            let limit = limit_if(reads_time(*pick, s), *test);
+            smaller_limit(latest_step(s, driver, beside), limit)
+        }
+        Term::WhileInput(s, _) | Term::CollectAll(s) | Term::Map(s, _) => {
+            latest_step(s, driver, beside)
+        }
+        // The schedule anew may go on later.
+        Term::ResetWhen(_, _, _) => None,
         Term::Forever
         | Term::Recurs(_)
         | Term::Spaced(_)
@@ -144,6 +166,13 @@ fn limit_if(reads_time: bool, test: Test) -> Option<u64>
         Cmp::Le | Cmp::Eq => Some(test.than),
         Cmp::Ne | Cmp::Gt | Cmp::Ge => None,
     }
+}
+
+// The sum of two limits, if there are both and it fits.
+pub(crate) fn limit_sum(first: Option<u64>, second: Option<u64>) -> Option<u64>
+    ensures value { result ≡ limit_sum first second }
+{
+    first?.checked_add(second?)
 }
 
 // The smaller of two limits, or the one that there is.

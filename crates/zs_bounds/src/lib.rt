@@ -29,10 +29,14 @@ mod span;
 mod stepping;
 mod told;
 mod waits;
+mod within;
 
 pub use bounding::bounds;
 pub use driver::Driver;
 pub use endless::never_gives_up;
-pub use laws::{bounds_hold, bounds_hold_for_schedule_waits};
+pub use laws::{
+    bounds_hold, bounds_hold_for_schedule_waits, calls_are_attempts, drawn_leaves_are_a_drawn_whole,
+};
 pub use told::Bounds;
 pub use waits::Waits;
+pub use within::attempts_within;

@@ -1,10 +1,11 @@
 //! What is known of a schedule for every history that a driver can make.
 
 ghost use Rattle.std.specs.Prelude.{◌≡◌, ◌+◌, ◌<◌, ◌^◌};
-ghost use Rattle.zs_bounds.specs.BoundsOf.{no_bounds, with_step, ended, unended, sum_within, longer_run, longer_total, at_most, real_limit, total_limit, whole_run};
+ghost use Rattle.zs_bounds.specs.BoundsOf.{no_bounds, with_step, complete, ended, unended, sum_within, longer_run, longer_total, at_most, most_limit, real_limit, whole_run};
 
 use crate::decisions::Decisions;
 use crate::driver::Driver;
+use crate::latest::limit_sum;
 use crate::span::Span;
 
 /// What holds for every history that a driver can make with a schedule.
@@ -12,13 +13,16 @@ use crate::span::Span;
 pub struct Bounds {
     /// The number of steps that were looked at.
     pub seen: u64,
+    /// Whether there may be more steps than were looked at.
+    pub is_cut: bool,
     /// No step before this one is the last: the schedule doesn't give up after fewer attempts.
     pub least: u64,
-    /// The step at which the schedule is done at the latest, if it always is within the steps that
-    /// were looked at.
+    /// The step at which the schedule is done at the latest, if there is a bound.
     pub most: Option<u64>,
     /// The longest wait after a step that was looked at, in milliseconds.
     pub longest: u64,
+    /// No wait after any step is longer, in milliseconds, if there is such a limit.
+    pub every: Option<u64>,
     /// All waits together are at most this long, in milliseconds, if there is a bound.
     pub total: Option<u64>,
     /// Each attempt ends at most this long after the begin of the first one, in milliseconds, if
@@ -33,9 +37,11 @@ impl Bounds {
     {
         Bounds {
             seen: 0,
+            is_cut: true,
             least: 1,
             most: None,
             longest: 0,
+            every: None,
             total: Some(0),
             longest_run: driver.most,
         }
@@ -52,15 +58,24 @@ impl Bounds {
         let goes_on = self.seen < self.least && !decision.stops;
         Bounds {
             seen: self.seen + 1,
-            least: if goes_on {
-                self.least.saturating_add(1)
-            } else {
-                self.least
-            },
+            is_cut: true,
+            least: self.least.saturating_add(goes_on as u64),
             most: None,
             longest: self.longest.max(wait),
+            every: None,
             total: longer_total(before, wait, self.total),
             longest_run: longer_run(limit, driver.most, decision.waits, self.longest_run),
+        }
+    }
+
+    // No step follows those that were seen.
+    pub(crate) fn complete(self) -> Bounds
+        ensures value { result ≡ complete self }
+    {
+        Bounds {
+            is_cut: false,
+            every: Some(self.longest),
+            ..self
         }
     }
 
@@ -70,7 +85,7 @@ impl Bounds {
     {
         Bounds {
             most: Some(self.seen),
-            ..self
+            ..self.complete()
         }
     }
 
@@ -80,9 +95,12 @@ impl Bounds {
     pub(crate) fn without_end(self, limit: Option<u64>, wait: Option<u64>, driver: Driver) -> Bounds
         ensures value { result ≡ unended limit wait driver self }
     {
-        let total = total_limit(limit, real_limit(driver, wait));
+        let every = real_limit(driver, wait);
+        let total = limit_sum(limit, every);
         Bounds {
-            most: None,
+            is_cut: true,
+            most: most_limit(driver, limit),
+            every,
             total,
             longest_run: whole_run(driver.most, total),
             ..self
@@ -131,25 +149,22 @@ fn longer_run(
     Some(before.max(sum_within(waited, longest)?))
 }
 
+// A limit of the steps, by one of the time up to a step that goes on: each step before it has an
+// attempt after it, and one more step may follow.
+fn most_limit(driver: Driver, limit: Option<u64>) -> Option<u64>
+    ensures value { result ≡ most_limit driver limit }
+{
+    sum_within(limit.map(|time| time / driver.shortest()), 2)
+}
+
 // A limit of a driver's waits, by one of the schedule's.
-fn real_limit(driver: Driver, wait: Option<u64>) -> Option<u64>
+pub(crate) fn real_limit(driver: Driver, wait: Option<u64>) -> Option<u64>
     ensures value { result ≡ real_limit driver wait }
 {
-    match wait {
-        None => None,
-        Some(longest) => Some(driver.waits.longest(longest)),
-    }
+    Some(driver.waits.longest(wait?))
 }
 
-// All waits, by a limit of the time up to a step that goes on and one of each wait.
-fn total_limit(limit: Option<u64>, wait: Option<u64>) -> Option<u64>
-    ensures value { result ≡ total_limit limit wait }
-{
-    let time = limit?;
-    sum_within(Some(time), wait?)
-}
-
-// The longest run, by these and the longest attempt.
+// The longest run, by all waits and the longest attempt.
 fn whole_run(most: Option<u64>, total: Option<u64>) -> Option<u64>
     ensures value { result ≡ whole_run most total }
 {

@@ -55,10 +55,8 @@ impl Waits {
     pub(crate) fn real_waits(self, waits: Option<Span>) -> Option<Span>
         ensures value { result ≡ real_waits self waits }
     {
-        match waits {
-            None => None,
-            Some(wait) => Some(Span::new(self.shortest(wait.low), self.longest(wait.high))),
-        }
+        let wait = waits?;
+        Some(Span::new(self.shortest(wait.low), self.longest(wait.high)))
     }
 }
 

@@ -13,7 +13,7 @@ use Rattle.zs_bounds_lines.specs.declared.fault.BoundsFault.{BoundsFault}
 use Rattle.zs_bounds_lines.specs.declared.fault.BoundsFault.TheVariants.{Write, Words}
 use Rattle.zs_bounds_lines.specs.declared.fault.OptionFault.{OptionFault}
 use Rattle.zs_bounds_lines.specs.declared.fault.OptionFault.TheVariants.{Unknown, Steps, Attempt}
-use Rattle.zs_bounds_lines.specs.declared.fault.OptionFault.TheVariants.{Wait, Late, Asked}
+use Rattle.zs_bounds_lines.specs.declared.fault.OptionFault.TheVariants.{Wait, Late, Asked, Within}
 use Rattle.zs_bounds_lines.specs.declared.options.Options.{Options}
 use Rattle.zs_bounds_lines.specs.declared.words.Request.{Request}
 use Rattle.zs_bounds_lines.specs.declared.words.Request.TheVariants.{Help, Version, Run}
@@ -88,9 +88,9 @@ abbrev pub late_of : List ℕ → Option ℕ
 late_of text = if bytes_eq text (codes "any") then Some max_moment else duration_of text
 
 -- the options if no word names others: attempts of 1 ms or more, which begin at the end of the
--- schedule's waits, and the usual number of steps
+-- schedule's waits, the usual number of steps, and no time in which attempts are counted
 abbrev pub usual_options : Options
-usual_options = record { driver = exact_driver; steps = None }
+usual_options = record { driver = exact_driver; steps = None; within = None }
 
 -- the options with these waits of the driver
 abbrev pub with_waits : Options → Waits → Options
@@ -118,6 +118,10 @@ with_asked options asked = with_waits options (record options.driver.waits { ask
 abbrev pub with_steps : Options → ℕ → Options
 with_steps options n = record options { steps = Some n }
 
+-- `--within`: the time for which attempts that begin within it are counted
+abbrev pub with_within : Options → ℕ → Options
+with_within options time = record options { within = Some time }
+
 -- the options that a value sets, or the fault if it has another form
 abbrev pub or_fault : {A : Type 0} → OptionFault → (A → Options) → Option A
     → Result Options OptionFault
@@ -137,7 +141,9 @@ with_option name value options =
     then or_fault Asked (with_asked options) (duration_of value)
     else (if bytes_eq name (codes "--steps")
     then or_fault Steps (with_steps options) (number_of value)
-    else Err Unknown))))
+    else (if bytes_eq name (codes "--within")
+    then or_fault Within (with_within options) (duration_of value)
+    else Err Unknown)))))
 
 -- a request that a word is alone, or the one that follows from the words after it
 unfoldable pub unless_alone : List ℕ → Result Request OptionFault → Result Request OptionFault
@@ -162,7 +168,8 @@ request_from options (name ∷ (value ∷ words)) =
 unfoldable pub help_text : List ℕ
 help_text =
     codes "usage: zsched-bounds [--attempt [LEAST..]MOST] [--wait LEAST..MOST%]\n" ++ (
-    codes "                     [--late TIME|any] [--asked TIME] [--steps N] < POLICIES\n" ++ (
+    codes "                     [--late TIME|any] [--asked TIME] [--within TIME] [--steps N]\n" ++ (
+    codes "                     < POLICIES\n" ++ (
     codes "\n" ++ (
     codes "Reads a policy a line, and writes what is proved of each as a line of JSON.\n" ++ (
     codes "Empty lines, and lines that begin with #, are passed over.\n" ++ (
@@ -171,10 +178,11 @@ help_text =
     codes "  --wait 80..120%     how long waits are, of those of the policy (100..100%)\n" ++ (
     codes "  --late 50ms         how much later an attempt may begin; any: by any time (0ms)\n" ++ (
     codes "  --asked 30s         the longest Retry-After that is honoured (0ms)\n" ++ (
-    codes "  --steps N           looks at no more than N steps of each policy (20000, and of\n" ++ (
-    codes "                      more than 60 nodes 1200000 divided by their number)\n" ++ (
+    codes "  --within 10s        also how many attempts begin within that time of the first\n" ++ (
+    codes "  --steps N           looks at no more than N steps of each policy (1200000\n" ++ (
+    codes "                      divided by the number of its nodes)\n" ++ (
     codes "  --help              prints this\n" ++ (
-    codes "  --version           prints the version\n")))))))))))))
+    codes "  --version           prints the version\n")))))))))))))))
 
 -- what `--version` prints
 unfoldable pub version_text : List ℕ

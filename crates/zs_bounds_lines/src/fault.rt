@@ -39,6 +39,9 @@ pub enum OptionFault {
     /// The value of `--asked` is missing, or isn't a duration.
     #[error("--asked needs a duration, as 30s")]
     Asked,
+    /// The value of `--within` is missing, or isn't a duration.
+    #[error("--within needs a duration, as 10s")]
+    Within,
 }
 
 /// Why a run stopped. Whole lines were written, unless the writer failed.

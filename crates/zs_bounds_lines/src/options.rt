@@ -10,4 +10,6 @@ pub(crate) struct Options {
     /// At most this number of steps of each policy is looked at. `None` is the usual number, which
     /// is lower for large policies.
     pub(crate) steps: Option<u64>,
+    /// The time for which attempts that begin within it are counted, in milliseconds.
+    pub(crate) within: Option<u64>,
 }

@@ -17,7 +17,8 @@ fn help() -> &'static str
     ensures text { result.now ≡ help_text }
 {
     "usage: zsched-bounds [--attempt [LEAST..]MOST] [--wait LEAST..MOST%]
-                     [--late TIME|any] [--asked TIME] [--steps N] < POLICIES
+                     [--late TIME|any] [--asked TIME] [--within TIME] [--steps N]
+                     < POLICIES
 
 Reads a policy a line, and writes what is proved of each as a line of JSON.
 Empty lines, and lines that begin with #, are passed over.
@@ -26,8 +27,9 @@ Empty lines, and lines that begin with #, are passed over.
   --wait 80..120%     how long waits are, of those of the policy (100..100%)
   --late 50ms         how much later an attempt may begin; any: by any time (0ms)
   --asked 30s         the longest Retry-After that is honoured (0ms)
-  --steps N           looks at no more than N steps of each policy (20000, and of
-                      more than 60 nodes 1200000 divided by their number)
+  --within 10s        also how many attempts begin within that time of the first
+  --steps N           looks at no more than N steps of each policy (1200000
+                      divided by the number of its nodes)
   --help              prints this
   --version           prints the version
 "
@@ -47,6 +49,7 @@ fn request_of(words: &[String]) -> Result<Request, OptionFault>
     let usual = Options {
         driver: Driver::exact(),
         steps: None,
+        within: None,
     };
     request_from(usual, words)
 }

@@ -157,6 +157,11 @@ fn with_option(name: &str, value: &str, options: Options) -> Result<Options, Opt
             return Err(OptionFault::Steps);
         };
         new.steps = Some(steps);
+    } else if name == "--within" {
+        let Some(time) = duration(value) else {
+            return Err(OptionFault::Within);
+        };
+        new.within = Some(time);
     } else {
         return Err(OptionFault::Unknown);
     }

@@ -8,9 +8,6 @@ use zs_term::{Checked, Term};
 // All nodes of a policy usually take at most this number of steps together: within 0.1 s.
 const WORK: u64 = 1_200_000;
 
-// The policy usually takes at most this number of steps.
-const STEPS: u64 = 20_000;
-
 // The number of nodes of a term. `resetWhen` counts its part twice.
 fn weight(term: &Term) -> u64
     requires within { weight (schedule_of term.now) ≤ max_weight }
@@ -43,6 +40,6 @@ pub(crate) fn steps_for(set: Option<u64>, policy: &Checked) -> u64
 {
     match set {
         Some(steps) => steps,
-        None => (WORK / weight(policy.term())).clamp(1, STEPS),
+        None => (WORK / weight(policy.term())).max(1),
     }
 }

@@ -1,15 +1,18 @@
 -- The sizes of lists after a history: no more than its steps. So 64 bits hold them, if they hold
 -- the number of steps.
-use Rattle.std.proofs.Common.{◌≡◌, ℕ, suc, ◌<◌, ◌≤◌, Bool, true, false, ◌&&◌, Option, Some, None, [], ◌∷◌, length, refl, ap, ◌∙◌, subst, arith}
+use Rattle.std.proofs.Common.{◌≡◌, ℕ, suc, ◌<◌, ◌≤◌, Bool, true, false, ◌&&◌, Option, Some, None}
+use Rattle.std.proofs.Common.{[], ◌∷◌, length, refl, ap, ◌∙◌, subst, arith}
 use Rattle.zs_term.specs.Output.{Output, Outputs, none, more, with_last, count, passes, picked}
-use Rattle.zs_term.specs.Schedule.{Schedule, Pairing, Modifier, two, over, while_input, while_output, collect_all, mapped, reset_when}
+use Rattle.zs_term.specs.Schedule.{Schedule, Pairing, Modifier, two, over, while_input}
+use Rattle.zs_term.specs.Schedule.{while_output, collect_all, mapped, reset_when}
 use Rattle.zs_term.specs.declared.term.Test.{Test}
 use Rattle.zs_term.specs.declared.term.Pick.{Pick}
 use Rattle.zs_step.specs.declared.decision.Decision.{Decision}
 use Rattle.zs_step.specs.declared.decision.Decision.TheVariants.{Stop, Next}
 use Rattle.zs_step.specs.History.{History}
 use Rattle.zs_step.specs.Memory.{keeps_no_list}
-use Rattle.zs_step.specs.Answer.{Answer, answer_of, is_next, done_from, from_done, collect_if, collected, reset_if, since_reset}
+use Rattle.zs_step.specs.Answer.{Answer, answer_of, is_next, done_from, from_done, collect_if}
+use Rattle.zs_step.specs.Answer.{collected, reset_if, since_reset}
 use Rattle.zs_c.specs.Shown.{IsCountable}
 use Rattle.zs_c.specs.Steps.{size_after}
 
@@ -117,7 +120,8 @@ pub count-turn : (s : Schedule) (h : History) (p : ℕ × ℕ) (d : Decision) (n
     → size_after n d ≡ count (collected (answer_of s) (p ∷ h))
 count-turn s h p d n all is decides =
     let few = count-within (answer_of s) h in
-    let small : count (collected (answer_of s) h) < 18446744073709551615 = omega (arith, few, all refl)
+    let small : count (collected (answer_of s) h) < 18446744073709551615 =
+    omega (arith, few, all refl)
     in
     ap (λ k. size_after k d) is ∙ ap (size_after (count (collected (answer_of s) h))) decides
     ∙ count-next (answer_of s (p ∷ h)).decision (collected (answer_of s) h)

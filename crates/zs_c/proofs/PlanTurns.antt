@@ -1,5 +1,7 @@
 -- A turn over the words of a state: the plan after its step.
-use Rattle.std.proofs.Common.{◌≡◌, ℕ, suc, ◌+◌, ◌/◌, ◌<◌, ◌≤◌, Bool, true, false, Option, Some, None, List, [], ◌∷◌, ◌++◌, length, drop, refl, sym, ap, ◌∙◌, subst, arith}
+use Rattle.std.proofs.Common.{◌≡◌, ℕ, suc, ◌+◌, ◌/◌, ◌<◌, ◌≤◌, Bool, true, false, Option, Some}
+use Rattle.std.proofs.Common.{None, List, [], ◌∷◌, ◌++◌, length, drop, refl, sym, ap, ◌∙◌, subst}
+use Rattle.std.proofs.Common.{arith}
 use Rattle.std.specs.Prelude.{slice_index_or, slice_set, nat_le, if◌then◌else◌}
 use Rattle.std.proofs.lemmas.Bool.Decides.{nat_tests}
 use Rattle.std.proofs.lemmas.List.{length-append}
@@ -9,11 +11,15 @@ use Rattle.zs_step.specs.declared.decision.Decision.TheVariants.{Stop, Next}
 use Rattle.zs_step.specs.History.{History, last_moment}
 use Rattle.zs_step.specs.Answer.{answer_of}
 use Rattle.zs_c.specs.declared.program.denial.Denial.{Denial}
-use Rattle.zs_c.specs.declared.program.denial.Denial.TheVariants.{NoStep, Falls, NoRoom, NoProgram, OtherState, OtherSize}
+use Rattle.zs_c.specs.declared.program.denial.Denial.TheVariants.{NoStep, Falls, NoRoom, NoProgram}
+use Rattle.zs_c.specs.declared.program.denial.Denial.TheVariants.{OtherState, OtherSize}
+use Rattle.zs_c.specs.declared.program.denial.Denial.TheVariants.{OtherVersion}
 use Rattle.zs_c.specs.declared.turn.Turn.{Turn}
 use Rattle.zs_c.specs.Code.{held_of, held_size}
 use Rattle.zs_c.specs.Numbers.{decision_number, next_moment}
-use Rattle.zs_c.specs.Plan.{moment_of, begin_of, plan_of, plan_number, plan_begin, plan_after, planned_after, step_of, IsFair, BeginsFairly, TellsPlan, IsTurnPlanned, IsTurnDenied}
+use Rattle.zs_c.specs.Plan.{moment_of, begin_of, plan_of, plan_number, plan_begin, plan_after}
+use Rattle.zs_c.specs.Plan.{planned_after, step_of, IsFair, BeginsFairly, TellsPlan, IsTurnPlanned}
+use Rattle.zs_c.specs.Plan.{IsTurnDenied}
 use Rattle.zs_c.specs.Program.{IsProgram, KeepsProgramState}
 use Rattle.zs_c.specs.Programs.{IsProgramStepped, IsStepSafe}
 use Rattle.zs_c.specs.Told.{TellsStep}
@@ -60,18 +66,20 @@ some-plan turn m x begin is counted =
 -- the words after a step, with its plan
 abbrev pub with_plan : Option ℕ → List ℕ → List ℕ
 with_plan None ws = ws
-with_plan (Some begin) ws = slice_set ws 2 (begin / 1000000)
+with_plan (Some begin) ws = slice_set ws 3 (begin / 1000000)
 
--- the words after the first four are unchanged
+-- the words after the first five are unchanged
 after-plan : (o : Option ℕ) (n : ℕ) (ws : List ℕ)
-    → drop (suc (suc (suc (suc n)))) (with_plan o ws) ≡ drop (suc (suc (suc (suc n)))) ws
+    → drop (suc (suc (suc (suc (suc n))))) (with_plan o ws)
+    ≡ drop (suc (suc (suc (suc (suc n))))) ws
 after-plan None n ws = refl
 after-plan (Some begin) n [] = refl
 after-plan (Some begin) n (a ∷ []) = refl
 after-plan (Some begin) n (a ∷ (b ∷ [])) = refl
-after-plan (Some begin) n (a ∷ (b ∷ (c ∷ ws))) = refl
+after-plan (Some begin) n (a ∷ (b ∷ (c ∷ []))) = refl
+after-plan (Some begin) n (a ∷ (b ∷ (c ∷ (d ∷ ws)))) = refl
 
--- and so are the first two
+-- and so are the first three
 first-kept : (o : Option ℕ) (ws : List ℕ)
     → slice_index_or (with_plan o ws) 0 0 ≡ slice_index_or ws 0 0
 first-kept None ws = refl
@@ -85,15 +93,24 @@ second-kept (Some begin) [] = refl
 second-kept (Some begin) (a ∷ []) = refl
 second-kept (Some begin) (a ∷ (b ∷ ws)) = refl
 
+third-kept : (o : Option ℕ) (ws : List ℕ)
+    → slice_index_or (with_plan o ws) 2 0 ≡ slice_index_or ws 2 0
+third-kept None ws = refl
+third-kept (Some begin) [] = refl
+third-kept (Some begin) (a ∷ []) = refl
+third-kept (Some begin) (a ∷ (b ∷ [])) = refl
+third-kept (Some begin) (a ∷ (b ∷ (c ∷ ws))) = refl
+
 -- a turn of any words changes no more than a step does
 pub plan-safe : (o : Option ℕ) (program old mid : List ℕ) (now : ℕ) → IsStepSafe program old mid now
     → IsStepSafe program old (with_plan o mid) now
 plan-safe o program old mid now safe =
     let n = slice_index_or program 3 0 in
-    let e : n + 4 ≡ suc (suc (suc (suc n))) = omega arith in
+    let e : n + 5 ≡ suc (suc (suc (suc (suc n)))) = omega arith in
     record {
-      check = first-kept o mid ∙ safe.check;
-      moment = second-kept o mid ∙ safe.moment;
+      version = first-kept o mid ∙ safe.version;
+      check = second-kept o mid ∙ safe.check;
+      moment = third-kept o mid ∙ safe.moment;
       behind = ap (λ k. drop k (with_plan o mid)) e ∙ after-plan o n mid ∙ sym
           (ap (λ k. drop k mid) e) ∙ safe.behind;
     }
@@ -104,12 +121,12 @@ plan-kept : (o : Option ℕ) (t : Schedule) (h : History) (planned : ℕ) (ws : 
     → KeepsProgramState t h (planned_after planned o) (with_plan o ws)
 plan-kept None t h planned ws k = k
 plan-kept (Some begin) t h planned ws k =
-    (k.0, ap (λ (v : List ℕ). slice_set v 2 (begin / 1000000)) k.1)
+    (k.0, ap (λ (v : List ℕ). slice_set v 3 (begin / 1000000)) k.1)
 
 -- the planned begin of a state
 planned-word : (t : Schedule) (h : History) (planned : ℕ) (ws : List ℕ)
-    → KeepsProgramState t h planned ws → slice_index_or ws 2 0 ≡ planned
-planned-word t h planned ws k = ap (λ (v : List ℕ). slice_index_or v 2 0) k.1
+    → KeepsProgramState t h planned ws → slice_index_or ws 3 0 ≡ planned
+planned-word t h planned ws k = ap (λ (v : List ℕ). slice_index_or v 3 0) k.1
 
 -- a step at the moment of a turn
 turn-told : (o : Option ℕ) (t : Schedule) (turn : Turn) (h : History) (planned now : ℕ)
@@ -138,7 +155,7 @@ turn-told o t turn h planned now mid d count number begin is told kept plans num
 -- a turn over the words of a state
 pub turn-planned : (o : Option ℕ) (t : Schedule) (turn : Turn) (now : ℕ) (old mid : List ℕ)
     (d : Decision) (count number begin : ℕ) →
-    now ≡ moment_of (slice_index_or old 2 0) turn
+    now ≡ moment_of (slice_index_or old 3 0) turn
     → IsProgramStepped t old mid (now, turn.input) (decision_number d) (next_moment d) count
     → plan_of turn now d ≡ o →
     number ≡ plan_number o → begin ≡ plan_begin o → IsTurnPlanned t turn old (with_plan o mid)
@@ -192,18 +209,20 @@ turn-fair t h planned turn new number begin small told none =
 pub turn-denied : (t : Schedule) (h : History) (planned : ℕ) (program state : List ℕ)
     (turn : Turn) (why : Denial) → IsProgram program t
     → KeepsProgramState t h planned state → last_moment h ≤ planned
-    → slice_index_or state 2 0 < 18446744073709551616 → turn.size ≡ 56
+    → slice_index_or state 3 0 < 18446744073709551616 → turn.size ≡ 56
     → IsTurnDenied program state turn why → ⊥
 turn-denied t h planned program state turn OtherSize is kept after small sized denied = denied sized
 turn-denied t h planned program state turn NoStep is kept after small sized denied = denied
 turn-denied t h planned program state turn NoProgram is kept after small sized denied = denied t is
 turn-denied t h planned program state turn NoRoom is kept after small sized denied =
-    let all : length state ≡ suc (suc (suc (suc (length (held_of t h ++ kept.0))))) =
+    let all : length state ≡ suc (suc (suc (suc (suc (length (held_of t h ++ kept.0)))))) =
     ap (λ (v : List ℕ). length v) kept.1 in
     omega (arith, denied t is, all, length-append (held_of t h) kept.0, held-length t [] h)
 turn-denied t h planned program state turn OtherState is kept after small sized denied =
-    denied t is (ap (λ (v : List ℕ). slice_index_or v 0 0) kept.1)
+    denied t is (ap (λ (v : List ℕ). slice_index_or v 1 0) kept.1)
+turn-denied t h planned program state turn OtherVersion is kept after small sized denied =
+    denied (ap (λ (v : List ℕ). slice_index_or v 0 0) kept.1)
 turn-denied t h planned program state turn Falls is kept after small sized denied =
-    let last : slice_index_or state 1 0 ≡ last_moment h =
-    ap (λ (v : List ℕ). slice_index_or v 1 0) kept.1 in
+    let last : slice_index_or state 2 0 ≡ last_moment h =
+    ap (λ (v : List ℕ). slice_index_or v 2 0) kept.1 in
     omega (arith, denied, last, planned-word t h planned state kept, small, after)

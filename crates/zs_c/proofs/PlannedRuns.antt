@@ -1,5 +1,7 @@
 -- A loop that begins no attempt before its planned begin makes histories of its driver.
-use Rattle.std.proofs.Common.{◌≡◌, ℕ, suc, ◌+◌, ◌-◌, ◌*◌, ◌/◌, min, max, ◌<◌, ◌≤◌, inl, inr, Bool, true, false, nat_le, if◌then◌else◌, Option, Some, None, [], ◌∷◌, length, refl, sym, ap, subst, arith}
+use Rattle.std.proofs.Common.{◌≡◌, ℕ, suc, ◌+◌, ◌-◌, ◌*◌, ◌/◌, min, max, ◌<◌, ◌≤◌, inl, inr, Bool}
+use Rattle.std.proofs.Common.{true, false, nat_le, if◌then◌else◌, Option, Some, None, [], ◌∷◌}
+use Rattle.std.proofs.Common.{length, refl, sym, ap, subst, arith}
 use Rattle.std.specs.Int.{div_ceil}
 use Rattle.std.proofs.lemmas.Grind.{div_ceil_times}
 use Rattle.std.proofs.lemmas.Nat.{le-div}
@@ -16,8 +18,11 @@ use Rattle.zs_bounds.specs.declared.waits.Waits.{Waits}
 use Rattle.zs_bounds.specs.Driven.{IsStep, IsAttempt, IsWait, LetsEndAt, IsDriven}
 use Rattle.zs_bounds.specs.Bounds.{Promises}
 use Rattle.zs_c.specs.declared.turn.Turn.{Turn}
-use Rattle.zs_c.specs.Plan.{end_of, moment_of, asked_of, begin_of, plan_of, plan_number, plan_begin, plan_after, step_of, IsFair}
-use Rattle.zs_c.specs.Planned.{IsCounted, Allows, FollowsDriver, punctual, LetsBeginAt, IsPlanned, StaysWithin}
+use Rattle.zs_c.specs.Bounded.{has_bound, run_told, bounds_told}
+use Rattle.zs_c.specs.Plan.{nanos, end_of, moment_of, asked_of, begin_of, plan_of, plan_number}
+use Rattle.zs_c.specs.Plan.{plan_begin, plan_after, step_of, IsFair}
+use Rattle.zs_c.specs.Planned.{IsCounted, Allows, FollowsDriver, punctual, LetsBeginAt, IsPlanned}
+use Rattle.zs_c.specs.Planned.{StaysWithin}
 use Rattle.zs_c.specs.Shown.{IsCountable}
 use Rattle.zs_c.proofs.Planning.{fair-begin}
 use Rattle.zs_c.proofs.Running.{at-most}
@@ -227,17 +232,25 @@ turn-first t d [] planned turn short fits was keeps =
     (first-timed d.most d turn refl short fits (subst (λ n. FollowsDriver d [] n turn) none keeps))
 turn-first t d (p ∷ h) planned turn short fits was keeps = was.so_far.1
 
--- an attempt that follows its driver ends within the longest run of its bounds
+-- an end in milliseconds within a run is before that run as C reads it
+before-run : (o : Option ℕ) (end : ℕ) → end ≤ 18446744073709551615
+    → ((r : ℕ) → o ≡ Some r → end / 1000000 ≤ r) → has_bound o ≡ 1 → end < nanos (run_told o)
+before-run None end counted within some = absurd (omega (arith, some))
+before-run (Some r) end counted within some =
+    omega (arith, within r refl, millis-high end, counted)
+
+-- an attempt that follows its driver ends before the longest run of its bounds
 pub turn-ends : (t : Schedule) (d : Driver) (h : History) (planned : ℕ) (turn : Turn) (b : Bounds)
-    (r : ℕ) → d.least ≤ 1 → IsCounted turn
+    → d.least ≤ 1 → IsCounted turn
     → IsPlanned t d h planned → FollowsDriver d h planned turn → Promises t d b
-    → b.longest_run ≡ Some r
-    → end_of turn / 1000000 ≤ r
-turn-ends t d h planned turn b r short fits was keeps holds is =
+    → (bounds_told b).has_longest_run ≡ 1
+    → end_of turn < nanos (bounds_told b).longest_run
+turn-ends t d h planned turn b short fits was keeps holds some =
     let driven = turn-driven t d h planned turn short fits was keeps in
     let first = turn-first t d h planned turn short fits was keeps in
-    let within = holds.run r is (step_of (planned / 1000000) turn ∷ h) driven 0 first in
-    omega (arith, within)
+    before-run b.longest_run (end_of turn) (omega (arith, fits.began, fits.ended))
+    (λ r is. let within = holds.run r is (step_of (planned / 1000000) turn ∷ h) driven 0 first in
+    omega (arith, within)) some
 
 -- ---- what a turn promises
 
@@ -357,6 +370,6 @@ stays-within t d h planned turn number begin o allows fits was keeps plans numbe
           numbered begins zero_is;
       most = λ b k holds is. let more = one-more t d h planned turn o b k holds is driven plans in
           omega (arith, more, numbered);
-      run = λ b r holds is. turn-ends t d h planned turn b r allows.shortest fits was keeps holds
-          is;
+      run = λ b holds some. turn-ends t d h planned turn b allows.shortest fits was keeps holds
+          some;
     }

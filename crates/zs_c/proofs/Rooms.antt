@@ -1,5 +1,6 @@
 -- Texts one after the other in a buffer that may be shorter.
-use Rattle.std.proofs.Common.{◌≡◌, ℕ, List, [], ◌∷◌, ◌++◌, ◌+◌, length, take, drop, refl, ap, ◌∙◌, append_assoc, length-append, arith}
+use Rattle.std.proofs.Common.{◌≡◌, ℕ, List, [], ◌∷◌, ◌++◌, ◌+◌, length, take, drop, refl, ap, ◌∙◌}
+use Rattle.std.proofs.Common.{append_assoc, length-append, arith}
 use Rattle.zs_c.specs.Told.{written}
 
 -- no text
@@ -8,7 +9,9 @@ written_nothing [] = refl
 written_nothing (y ∷ ys) = refl
 
 -- a text after another, which was written before
-pub written_behind : (a b room : List ℕ) → take (length a) (written a room) ++ written b (drop (length a) (written a room)) ≡ written (a ++ b) room
+pub written_behind : (a b room : List ℕ) →
+    take (length a) (written a room) ++ written b (drop (length a) (written a room))
+    ≡ written (a ++ b) room
 written_behind [] b room = ap (written b) (written_nothing room)
 written_behind (x ∷ xs) [] [] = refl
 written_behind (x ∷ xs) (y ∷ ys) [] = refl

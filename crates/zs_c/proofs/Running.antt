@@ -1,5 +1,7 @@
 -- A step of a program over the words of its state.
-use Rattle.std.proofs.Common.{◌≡◌, ℕ, suc, ◌+◌, ◌-◌, ◌^◌, ◌<◌, ◌≤◌, Bool, true, false, ◌&&◌, List, [], ◌∷◌, ◌++◌, length, take, drop, get_or, length-drop, refl, sym, ap, ◌∙◌, subst, arith, Fits, w64}
+use Rattle.std.proofs.Common.{◌≡◌, ℕ, suc, ◌+◌, ◌-◌, ◌^◌, ◌<◌, ◌≤◌, Bool, true, false, ◌&&◌, List}
+use Rattle.std.proofs.Common.{[], ◌∷◌, ◌++◌, length, take, drop, get_or, length-drop, refl, sym, ap}
+use Rattle.std.proofs.Common.{◌∙◌, subst, arith, Fits, w64}
 use Rattle.std.specs.Prelude.{slice_index_or, slice_set, nat_le}
 use Rattle.std.proofs.lemmas.Bool.Decides.{nat_tests}
 use Rattle.std.proofs.lemmas.List.{length-take}
@@ -14,7 +16,7 @@ use Rattle.zs_c.specs.declared.program.opening.Opened.{Opened}
 use Rattle.zs_c.specs.Numbers.{decision_number, next_moment}
 use Rattle.zs_c.specs.Code.{IsCode, code_of, held_of, held_size}
 use Rattle.zs_c.specs.Opened.{Opens}
-use Rattle.zs_c.specs.Program.{program_check, has_stepped, KeepsProgramState}
+use Rattle.zs_c.specs.Program.{program_check, state_version, has_stepped, KeepsProgramState}
 use Rattle.zs_c.specs.Programs.{IsProgramStepped, IsStepSafe}
 use Rattle.zs_c.specs.Shown.{IsCountable, shows_no_list}
 use Rattle.zs_c.specs.Steps.{StepsCode}
@@ -58,83 +60,90 @@ all-fit (w ∷ ws) each = (omega (arith, each 0), all-fit ws (λ i. each (suc i)
 
 -- the text of an output is short
 pub short-text : (t : Schedule) (h : History) (code words : List ℕ) → IsCode t code 64
-    → weight t ≤ 1000 → shows_no_list t ≡ true → words ≡ held_of t h → EachFits code → EachFits words →
+    → weight t ≤ 1000 → shows_no_list t ≡ true → words ≡ held_of t h → EachFits code
+    → EachFits words →
     0 + length (output_text (answer_of t h).output) < 2 ^ 64
 short-text t h code words coded light free held code_fits words_fit =
     let first : AllFit (code_of t) = subst AllFit coded.is (all-fit code code_fits) in
     let second : AllFit (held_of t h) = subst AllFit held (all-fit words words_fit) in
     omega (arith, shown-bound t h free first second, light)
 
--- the words of a state, after its check word, its last moment, its planned begin and its flag
-state-arg : (old xs more : List ℕ) (a b c d n : ℕ) → old ≡ a ∷ (b ∷ (c ∷ (d ∷ (xs ++ more))))
-    → n ≡ length xs → take (n + 4 - 4) (drop 4 old) ≡ xs
-state-arg old xs more a b c d n is sized =
-    let e : n + 4 - 4 ≡ n = omega arith in
-    ap (λ k. take k (drop 4 old)) e ∙ ap (λ (v : List ℕ). take n (drop 4 v)) is ∙ ap
+-- the words of a schedule's state, after those of a state's head
+state-arg : (old xs more : List ℕ) (v a b c d n : ℕ)
+    → old ≡ v ∷ (a ∷ (b ∷ (c ∷ (d ∷ (xs ++ more)))))
+    → n ≡ length xs → take (n + 5 - 5) (drop 5 old) ≡ xs
+state-arg old xs more v a b c d n is sized =
+    let e : n + 5 - 5 ≡ n = omega arith in
+    ap (λ k. take k (drop 5 old)) e ∙ ap (λ (w : List ℕ). take n (drop 5 w)) is ∙ ap
     (λ k. take k (xs ++ more)) sized ∙ take-append_seam xs more
 
 -- the words of a state of n words with others in their place, after a step at a moment
 abbrev stepped_words : ℕ → List ℕ → List ℕ → ℕ → List ℕ
-stepped_words n old ys now = slice_set (slice_set (put_mid 4 (n + 4 - 4) old ys) 1 now) 3 1
+stepped_words n old ys now = slice_set (slice_set (put_mid 5 (n + 5 - 5) old ys) 2 now) 4 1
 
-state-new : (old xs more ys : List ℕ) (a b c d n now : ℕ)
-    → old ≡ a ∷ (b ∷ (c ∷ (d ∷ (xs ++ more)))) → n ≡ length xs
-    → stepped_words n old ys now ≡ a ∷ (now ∷ (c ∷ (1 ∷ (ys ++ more))))
-state-new old xs more ys a b c d n now is sized =
-    let e : n + 4 - 4 ≡ n = omega arith in
-    ap (λ k. slice_set (slice_set (put_mid 4 k old ys) 1 now) 3 1) e ∙ ap
-    (λ (v : List ℕ). slice_set (slice_set (put_mid 4 n v ys) 1 now) 3 1) is
-    ∙ ap (λ (z : List ℕ). a ∷ (now ∷ (c ∷ (1 ∷ (ys ++ z)))))
+state-new : (old xs more ys : List ℕ) (v a b c d n now : ℕ)
+    → old ≡ v ∷ (a ∷ (b ∷ (c ∷ (d ∷ (xs ++ more))))) → n ≡ length xs
+    → stepped_words n old ys now ≡ v ∷ (a ∷ (now ∷ (c ∷ (1 ∷ (ys ++ more)))))
+state-new old xs more ys v a b c d n now is sized =
+    let e : n + 5 - 5 ≡ n = omega arith in
+    ap (λ k. slice_set (slice_set (put_mid 5 k old ys) 2 now) 4 1) e ∙ ap
+    (λ (w : List ℕ). slice_set (slice_set (put_mid 5 n w ys) 2 now) 4 1) is
+    ∙ ap (λ (z : List ℕ). v ∷ (a ∷ (now ∷ (c ∷ (1 ∷ (ys ++ z))))))
     (ap (λ k. drop k (xs ++ more)) sized ∙ drop-append_seam xs more)
 
 -- the words after a state are unchanged
-behind-rest : (n now : ℕ) (old ys : List ℕ) → n + 4 ≤ length old → length ys ≡ n →
-    drop (suc (suc (suc (suc n)))) (slice_set (slice_set (put_mid 4 n old ys) 1 now) 3 1)
-    ≡ drop (suc (suc (suc (suc n)))) old
+behind-rest : (n now : ℕ) (old ys : List ℕ) → n + 5 ≤ length old → length ys ≡ n →
+    drop (suc (suc (suc (suc (suc n))))) (slice_set (slice_set (put_mid 5 n old ys) 2 now) 4 1)
+    ≡ drop (suc (suc (suc (suc (suc n))))) old
 behind-rest n now [] ys fits sized = absurd (omega (arith, fits))
 behind-rest n now (a ∷ []) ys fits sized = absurd (omega (arith, fits))
 behind-rest n now (a ∷ (b ∷ [])) ys fits sized = absurd (omega (arith, fits))
 behind-rest n now (a ∷ (b ∷ (c ∷ []))) ys fits sized = absurd (omega (arith, fits))
-behind-rest n now (a ∷ (b ∷ (c ∷ (d ∷ rest)))) ys fits sized =
+behind-rest n now (a ∷ (b ∷ (c ∷ (d ∷ [])))) ys fits sized = absurd (omega (arith, fits))
+behind-rest n now (a ∷ (b ∷ (c ∷ (d ∷ (e ∷ rest))))) ys fits sized =
     ap (λ k. drop k (ys ++ drop n rest)) (sym sized) ∙ drop-append_seam ys (drop n rest)
 
-state-behind : (n now : ℕ) (old ys : List ℕ) → n + 4 ≤ length old → length ys ≡ n →
-    drop (suc (suc (suc (suc n)))) (stepped_words n old ys now)
-    ≡ drop (suc (suc (suc (suc n)))) old
+state-behind : (n now : ℕ) (old ys : List ℕ) → n + 5 ≤ length old → length ys ≡ n →
+    drop (suc (suc (suc (suc (suc n))))) (stepped_words n old ys now)
+    ≡ drop (suc (suc (suc (suc (suc n))))) old
 state-behind n now old ys fits sized =
-    let e : n + 4 - 4 ≡ n = omega arith in
-    ap (λ k. drop (suc (suc (suc (suc n)))) (slice_set (slice_set (put_mid 4 k old ys) 1 now) 3 1))
+    let e : n + 5 - 5 ≡ n = omega arith in
+    ap (λ k. drop (suc (suc (suc (suc (suc n)))))
+    (slice_set (slice_set (put_mid 5 k old ys) 2 now) 4 1))
     e ∙ behind-rest n now old ys fits sized
 
 -- a step of the words of a state, whatever they are
 safe-words : (program old ys : List ℕ) (n now : ℕ) → n ≡ slice_index_or program 3 0
-    → n + 4 ≤ length old → length ys ≡ n →
+    → n + 5 ≤ length old → length ys ≡ n →
     IsStepSafe program old (stepped_words n old ys now) now
 safe-words program [] ys n now is fits sized = absurd (omega (arith, fits))
 safe-words program (a ∷ []) ys n now is fits sized = absurd (omega (arith, fits))
 safe-words program (a ∷ (b ∷ [])) ys n now is fits sized = absurd (omega (arith, fits))
 safe-words program (a ∷ (b ∷ (c ∷ []))) ys n now is fits sized = absurd (omega (arith, fits))
-safe-words program (a ∷ (b ∷ (c ∷ (d ∷ rest)))) ys n now is fits sized =
-    let all = a ∷ (b ∷ (c ∷ (d ∷ rest))) in
-    let e : slice_index_or program 3 0 + 4 ≡ suc (suc (suc (suc n))) = omega (arith, is) in
+safe-words program (a ∷ (b ∷ (c ∷ (d ∷ [])))) ys n now is fits sized = absurd (omega (arith, fits))
+safe-words program (a ∷ (b ∷ (c ∷ (d ∷ (e ∷ rest))))) ys n now is fits sized =
+    let all = a ∷ (b ∷ (c ∷ (d ∷ (e ∷ rest)))) in
+    let f : slice_index_or program 3 0 + 5 ≡ suc (suc (suc (suc (suc n)))) = omega (arith, is) in
     record {
+      version = refl;
       check = refl;
       moment = refl;
-      behind = ap (λ k. drop k (stepped_words n all ys now)) e
-          ∙ state-behind n now all ys fits sized ∙ sym (ap (λ k. drop k all) e);
+      behind = ap (λ k. drop k (stepped_words n all ys now)) f
+          ∙ state-behind n now all ys fits sized ∙ sym (ap (λ k. drop k all) f);
     }
 
 -- a step of the words of a state, and what it decides
 pub program-stepped : (t : Schedule) (old ys : List ℕ) (now input n visited : ℕ) (d : Decision) →
-    n ≡ held_size t → n + 4 ≤ length old → length ys ≡ n →
-    ((h : History) → IsCountable t h → take (n + 4 - 4) (drop 4 old) ≡ held_of t h
+    n ≡ held_size t → n + 5 ≤ length old → length ys ≡ n →
+    ((h : History) → IsCountable t h → take (n + 5 - 5) (drop 5 old) ≡ held_of t h
     → StepsCode t h ys now input d 0 visited) →
     IsProgramStepped t old (stepped_words n old ys now) (now, input) (decision_number d)
     (next_moment d) visited
 program-stepped t old ys now input n visited d sized fits kept step =
     let argued : (h : History) (planned : ℕ) → KeepsProgramState t h planned old
     → IsCountable t h → StepsCode t h ys now input d 0 visited =
-    λ h planned k all. step h all (state-arg old (held_of t h) k.0 (program_check t) (last_moment h) planned
+    λ h planned k all. step h all (state-arg old (held_of t h) k.0 state_version (program_check t)
+    (last_moment h) planned
     (has_stepped h) n k.1 (sized ∙ held-length t [] h)) in
     record {
       tells = λ h planned k all. let s = argued h planned k all in record {
@@ -144,27 +153,31 @@ program-stepped t old ys now input n visited d sized fits kept step =
       };
       state = λ h planned k all. (
         k.0,
-        state-new old (held_of t h) k.0 ys (program_check t) (last_moment h) planned (has_stepped h)
+        state-new old (held_of t h) k.0 ys state_version (program_check t) (last_moment h) planned
+            (has_stepped h)
             n now k.1 (sized ∙ held-length t [] h)
-            ∙ ap (λ (z : List ℕ). program_check t ∷ (now ∷ (planned ∷ (1 ∷ (z ++ k.0)))))
+            ∙ ap
+            (λ (z : List ℕ). state_version
+            ∷ (program_check t ∷ (now ∷ (planned ∷ (1 ∷ (z ++ k.0))))))
             (argued h planned k all).held,
       );
-      behind = ap (λ k. drop (suc (suc (suc (suc k)))) (stepped_words n old ys now)) (sym sized)
+      behind = ap (λ k. drop (suc (suc (suc (suc (suc k))))) (stepped_words n old ys now))
+          (sym sized)
           ∙ state-behind n now old ys fits kept
-          ∙ ap (λ k. drop (suc (suc (suc (suc k)))) old) sized;
+          ∙ ap (λ k. drop (suc (suc (suc (suc (suc k))))) old) sized;
     }
 
 -- the number of the words that are written
-arg-length : (n : ℕ) (old : List ℕ) → n + 4 ≤ length old
-    → length (take (n + 4 - 4) (drop 4 old)) ≡ n
-arg-length n old fits = omega (arith, fits, length-take (n + 4 - 4) (drop 4 old), length-drop 4 old)
+arg-length : (n : ℕ) (old : List ℕ) → n + 5 ≤ length old
+    → length (take (n + 5 - 5) (drop 5 old)) ≡ n
+arg-length n old fits = omega (arith, fits, length-take (n + 5 - 5) (drop 5 old), length-drop 5 old)
 
 -- a step of an opened program
 pub opened-stepped : (o : Opened) (t : Schedule) → Opens o t
     → (old ys : List ℕ) (now input visited : ℕ) (d : Decision) →
-    o.state + 4 ≤ length old → length ys ≡ length (take (o.state + 4 - 4) (drop 4 old)) →
+    o.state + 5 ≤ length old → length ys ≡ length (take (o.state + 5 - 5) (drop 5 old)) →
     ((u : Schedule) (h : History) → IsCode u o.code.now 64 → 0 + weight u ≤ 1000 → IsCountable u h
-    → take (o.state + 4 - 4) (drop 4 old) ≡ held_of u h → StepsCode u h ys now input d 0 visited) →
+    → take (o.state + 5 - 5) (drop 5 old) ≡ held_of u h → StepsCode u h ys now input d 0 visited) →
     IsProgramStepped t old (stepped_words o.state old ys now) (now, input) (decision_number d)
     (next_moment d) visited
 opened-stepped o t opens old ys now input visited d fits kept step =
@@ -175,8 +188,8 @@ opened-stepped o t opens old ys now input visited d fits kept step =
 
 -- the same for any words
 pub opened-safe : (o : Opened) (program old ys : List ℕ) (now : ℕ)
-    → o.state ≡ slice_index_or program 3 0 → o.state + 4 ≤ length old →
-    length ys ≡ length (take (o.state + 4 - 4) (drop 4 old)) → IsStepSafe program old
+    → o.state ≡ slice_index_or program 3 0 → o.state + 5 ≤ length old →
+    length ys ≡ length (take (o.state + 5 - 5) (drop 5 old)) → IsStepSafe program old
     (stepped_words o.state old ys now) now
 opened-safe o program old ys now is fits kept =
     safe-words program old ys o.state now is fits (kept ∙ arg-length o.state old fits)
@@ -184,7 +197,8 @@ opened-safe o program old ys now is fits kept =
 -- the words of an opened program's state after a history
 pub state-words : (o : Opened) (t : Schedule) (h : History) (planned : ℕ) (state : List ℕ)
     → Opens o t → KeepsProgramState t h planned state
-    → take (o.state + 4 - 4) (drop 4 state) ≡ held_of t h
+    → take (o.state + 5 - 5) (drop 5 state) ≡ held_of t h
 state-words o t h planned state opens k =
-    state-arg state (held_of t h) k.0 (program_check t) (last_moment h) planned (has_stepped h)
+    state-arg state (held_of t h) k.0 state_version (program_check t) (last_moment h) planned
+    (has_stepped h)
     o.state k.1 (opens.state ∙ held-length t [] h)

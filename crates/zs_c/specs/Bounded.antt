@@ -1,6 +1,7 @@
 -- What `zs_bounds` returns to C: the bounds of the schedule that the text spells. They hold.
-use Rattle.std.specs.Prelude.{◌≡◌, ◌≢◌, ◌⊎◌, ℕ, Bool, true, false, ◌&&◌, ◌||◌, nat_eq, nat_lt}
-use Rattle.std.specs.Prelude.{nat_le, if◌then◌else◌, List, Option, Some, None}
+use Rattle.std.specs.Prelude.{◌≡◌, ◌≢◌, ◌⊎◌, ◌+◌, ℕ, Bool, true, false, ◌&&◌, ◌||◌, nat_eq}
+use Rattle.std.specs.Prelude.{nat_lt, nat_le, if◌then◌else◌, List, Option, Some, None}
+use Rattle.zs_term.specs.Saturating.{saturated}
 use Rattle.zs_term.specs.Schedule.{Schedule}
 use Rattle.zs_term.specs.Causes.{SpellsSchedule}
 use Rattle.zs_bounds.specs.declared.driver.Driver.{Driver}
@@ -47,6 +48,12 @@ abbrev pub bound_told : Option ℕ → ℕ
 bound_told None = 0
 bound_told (Some n) = n
 
+-- A longest run, or 0 if there is none. Moments are whole milliseconds, rounded down, so an attempt
+-- may end up to a millisecond after the last one.
+abbrev pub run_told : Option ℕ → ℕ
+run_told None = 0
+run_told (Some n) = saturated (n + 1)
+
 -- bounds as C reads them
 abbrev pub bounds_told : Bounds → BoundsTold
 bounds_told b = record {
@@ -59,7 +66,7 @@ bounds_told b = record {
   has_total = has_bound b.total;
   total = bound_told b.total;
   has_longest_run = has_bound b.longest_run;
-  longest_run = bound_told b.longest_run;
+  longest_run = run_told b.longest_run;
 }
 
 -- The text spells a schedule, and these are its bounds over at most n steps. They hold for every

@@ -22,6 +22,7 @@ fault_words n =
     else if nat_eq n 15 then codes "no kind"
     else if nat_eq n 16 then codes "window is 0"
     else if nat_eq n 17 then codes "a struct of another size"
+    else if nat_eq n 18 then codes "no state of this version"
     else []
 
 -- whether the place that goes with a number is a byte of the text

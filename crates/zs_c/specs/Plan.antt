@@ -2,7 +2,6 @@
 -- and ended some nanoseconds after the first attempt began. Moments are milliseconds after that.
 use Rattle.std.specs.Prelude.{◌≡◌, ◌≢◌, ℕ, ◌+◌, ◌-◌, ◌*◌, ◌/◌, ◌≤◌, min, max, nat_le}
 use Rattle.std.specs.Prelude.{if◌then◌else◌, Option, Some, None, List, [], ◌∷◌, length, drop}
-use Rattle.std.specs.Prelude.{slice_index_or}
 use Rattle.zs_term.specs.Saturating.{max_moment, saturated}
 use Rattle.zs_term.specs.Schedule.{Schedule}
 use Rattle.zs_step.specs.History.{History, last_moment}
@@ -13,7 +12,8 @@ use Rattle.zs_c.specs.declared.turn.Turn.{Turn}
 use Rattle.zs_c.specs.declared.program.denial.Denial.{Denial}
 use Rattle.zs_c.specs.declared.program.denial.Denial.TheVariants.{NoStep, Falls, NoRoom}
 use Rattle.zs_c.specs.declared.program.denial.Denial.TheVariants.{NoProgram, OtherState, OtherSize}
-use Rattle.zs_c.specs.Program.{program_state, KeepsProgramState}
+use Rattle.zs_c.specs.declared.program.denial.Denial.TheVariants.{OtherVersion}
+use Rattle.zs_c.specs.Program.{program_state, KeepsProgramState, planned_in}
 use Rattle.zs_c.specs.Programs.{IsStepDenied}
 use Rattle.zs_c.specs.Shown.{IsCountable}
 
@@ -141,13 +141,15 @@ pub record IsTurnPlanned (t : Schedule) (turn : Turn) (old new : List ℕ) (numb
 abbrev pub IsTurnDenied : List ℕ → List ℕ → Turn → Denial → Type 0
 IsTurnDenied program state turn OtherSize = turn.size ≢ 56
 IsTurnDenied program state turn NoProgram =
-    IsStepDenied program state (moment_of (slice_index_or state 2 0) turn) NoProgram
+    IsStepDenied program state (moment_of (planned_in state) turn) NoProgram
 IsTurnDenied program state turn NoRoom =
-    IsStepDenied program state (moment_of (slice_index_or state 2 0) turn) NoRoom
+    IsStepDenied program state (moment_of (planned_in state) turn) NoRoom
 IsTurnDenied program state turn OtherState =
-    IsStepDenied program state (moment_of (slice_index_or state 2 0) turn) OtherState
+    IsStepDenied program state (moment_of (planned_in state) turn) OtherState
 IsTurnDenied program state turn Falls =
-    IsStepDenied program state (moment_of (slice_index_or state 2 0) turn) Falls
+    IsStepDenied program state (moment_of (planned_in state) turn) Falls
+IsTurnDenied program state turn OtherVersion =
+    IsStepDenied program state (moment_of (planned_in state) turn) OtherVersion
 IsTurnDenied program state turn NoStep = ⊥
 
 -- The last step was no later than the planned begin, and a turn has the size that this version

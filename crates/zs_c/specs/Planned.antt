@@ -14,6 +14,7 @@ use Rattle.zs_bounds.specs.declared.waits.Waits.{Waits}
 use Rattle.zs_bounds.specs.Driven.{IsAttempt, IsDriven, IsWait}
 use Rattle.zs_bounds.specs.Bounds.{Promises}
 use Rattle.zs_c.specs.declared.turn.Turn.{Turn}
+use Rattle.zs_c.specs.Bounded.{bounds_told}
 use Rattle.zs_c.specs.Plan.{nanos, end_of, asked_of, step_of}
 use Rattle.zs_c.specs.Program.{IsProgram, KeepsProgramState}
 
@@ -78,14 +79,15 @@ pub record IsPlanned (t : Schedule) (d : Driver) (h : History) (planned : ℕ) :
 
 -- What holds after a turn whose begin was planned. The driver can make the history, and if the next
 -- attempt may begin, that begin is planned too. So the bounds of the driver hold: there are at most
--- `most` attempts, with the one that may begin, and the attempt ended within `longest_run`.
+-- `most` attempts, with the one that may begin, and the attempt ended before `longest_run`, as C
+-- reads it, to the nanosecond.
 pub record StaysWithin (t : Schedule) (d : Driver) (h : History) (turn : Turn) (number begin : ℕ) :
     Type 0 where
   pub driven : IsDriven t d h
   pub planned : number ≡ 0 → IsPlanned t d h begin
   pub most : (b : Bounds) (k : ℕ) → Promises t d b → b.most ≡ Some k → length h + (1 - number) ≤ k
-  pub run : (b : Bounds) (r : ℕ) → Promises t d b → b.longest_run ≡ Some r
-      → end_of turn / 1000000 ≤ r
+  pub run : (b : Bounds) → Promises t d b → (bounds_told b).has_longest_run ≡ 1
+      → end_of turn < nanos (bounds_told b).longest_run
 
 -- This holds for every schedule, driver and history whose state the words were before the turn, if
 -- the attempt was planned, the driver allows the turn, and the attempt follows the driver.

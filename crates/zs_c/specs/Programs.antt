@@ -2,14 +2,15 @@
 -- schedule, and is that of one schedule alone. For other words, nothing is stated but why a call
 -- fails, and what a step changes.
 use Rattle.std.specs.Prelude.{◌≡◌, ◌≢◌, ℕ, ◌+◌, ◌<◌, List, [], ◌∷◌, ◌++◌, length, drop}
-use Rattle.std.specs.Prelude.{slice_index_or}
 use Rattle.zs_term.specs.Schedule.{Schedule}
 use Rattle.zs_step.specs.History.{History}
 use Rattle.zs_c.specs.declared.program.denial.Denial.{Denial}
 use Rattle.zs_c.specs.declared.program.denial.Denial.TheVariants.{NoStep, Falls, NoRoom}
 use Rattle.zs_c.specs.declared.program.denial.Denial.TheVariants.{NoProgram, OtherState, OtherSize}
+use Rattle.zs_c.specs.declared.program.denial.Denial.TheVariants.{OtherVersion}
 use Rattle.zs_c.specs.Program.{program_of, program_check, program_state, IsProgram}
-use Rattle.zs_c.specs.Program.{KeepsProgramState}
+use Rattle.zs_c.specs.Program.{KeepsProgramState, state_version, state_head, version_in, check_in}
+use Rattle.zs_c.specs.Program.{state_size_in, last_in, stepped_in}
 use Rattle.zs_c.specs.declared.refusal.Refusal.{Refusal}
 use Rattle.zs_c.specs.declared.refusal.Refusal.TheVariants.{NotUtf8, Memory, KeepsList}
 use Rattle.zs_c.specs.declared.refusal.Refusal.TheVariants.{NoRoom as RefusalNoRoom, NoDriver}
@@ -26,6 +27,7 @@ denial_number NoRoom = 7
 denial_number NoProgram = 8
 denial_number OtherState = 9
 denial_number OtherSize = 17
+denial_number OtherVersion = 18
 
 -- the text spells a schedule, and these are the numbers of words of its program and of its state
 pub record IsProgramSized (text : List ℕ) (size state_size : ℕ) : Type 0 where
@@ -75,33 +77,37 @@ IsUnfit program state OtherState = ⊥
 IsUnfit program state NoStep = ⊥
 IsUnfit program state Falls = ⊥
 IsUnfit program state OtherSize = ⊥
+IsUnfit program state OtherVersion = ⊥
 
--- Why a program has no such state: for one of these reasons; or the words are another program's.
+-- Why a program has no such state: for one of these reasons; or the words begin with another
+-- version, or are another program's.
 abbrev pub IsForeign : List ℕ → List ℕ → Denial → Type 0
 IsForeign program state NoProgram = IsUnfit program state NoProgram
 IsForeign program state NoRoom = IsUnfit program state NoRoom
 IsForeign program state OtherState =
-    (t : Schedule) → IsProgram program t → slice_index_or state 0 0 ≢ program_check t
+    (t : Schedule) → IsProgram program t → check_in state ≢ program_check t
+IsForeign program state OtherVersion = version_in state ≢ state_version
 IsForeign program state NoStep = ⊥
 IsForeign program state Falls = ⊥
 IsForeign program state OtherSize = ⊥
 
--- Why a program isn't stepped: for one of these reasons; or the moment is below the last one, which
--- is the second word of the state.
+-- Why a program isn't stepped: for one of these reasons; or the moment is below the last one.
 abbrev pub IsStepDenied : List ℕ → List ℕ → ℕ → Denial → Type 0
-IsStepDenied program state now Falls = now < slice_index_or state 1 0
+IsStepDenied program state now Falls = now < last_in state
 IsStepDenied program state now NoProgram = IsForeign program state NoProgram
 IsStepDenied program state now NoRoom = IsForeign program state NoRoom
 IsStepDenied program state now OtherState = IsForeign program state OtherState
+IsStepDenied program state now OtherVersion = IsForeign program state OtherVersion
 IsStepDenied program state now NoStep = ⊥
 IsStepDenied program state now OtherSize = ⊥
 
 -- Why there is no output: the words are no state of a program; or no step was made.
 abbrev pub IsOutputDenied : List ℕ → List ℕ → Denial → Type 0
-IsOutputDenied program state NoStep = slice_index_or state 3 0 ≡ 0
+IsOutputDenied program state NoStep = stepped_in state ≡ 0
 IsOutputDenied program state NoProgram = IsForeign program state NoProgram
 IsOutputDenied program state NoRoom = IsForeign program state NoRoom
 IsOutputDenied program state OtherState = IsForeign program state OtherState
+IsOutputDenied program state OtherVersion = IsForeign program state OtherVersion
 IsOutputDenied program state Falls = ⊥
 IsOutputDenied program state OtherSize = ⊥
 
@@ -115,12 +121,14 @@ pub record IsDeniedFor (Holds : Denial → Type 0) (n : ℕ) : Type 0 where
 pub record IsProgramBegun (t : Schedule) (old new : List ℕ) : Type 0 where
   pub begun : new ≡ program_state t [] 0 ++ drop (length (program_state t [] 0)) old
 
--- A step of words that are checked, whatever else they and a state's words are: the check word and
--- the words after the state are unchanged, and the second word is the moment.
+-- A step of words that are checked, whatever else they and a state's words are: the version, the
+-- check word and the words after the state are unchanged, and the last moment is that of the step.
 pub record IsStepSafe (program old new : List ℕ) (now : ℕ) : Type 0 where
-  pub check : slice_index_or new 0 0 ≡ slice_index_or old 0 0
-  pub moment : slice_index_or new 1 0 ≡ now
-  pub behind : drop (slice_index_or program 3 0 + 4) new ≡ drop (slice_index_or program 3 0 + 4) old
+  pub version : version_in new ≡ version_in old
+  pub check : check_in new ≡ check_in old
+  pub moment : last_in new ≡ now
+  pub behind : drop (state_size_in program + state_head) new
+      ≡ drop (state_size_in program + state_head) old
 
 -- The decision of one more step is returned, for each history whose state the words were, if 64
 -- bits hold the sizes of lists. The new words are the state after that step, with the same planned

@@ -20,7 +20,7 @@ pub record StepsCode (t : Schedule) (h : History) (words : List ℕ) (now input 
   pub decides : d ≡ (answer_of t ((now, input) ∷ h)).decision
   pub visited : after ≡ before + visits t ((now, input) ∷ h)
 
--- the same for two parts that are both stepped
+-- a step of two parts after a history: their new words, their decisions, and the visits
 pub record StepsBoth (a b : Schedule) (h : History) (words : List ℕ) (now input : ℕ)
     (d e : Decision) (before after : ℕ) : Type 0 where
   pub held : words ≡ held_of a ((now, input) ∷ h) ++ held_of b ((now, input) ∷ h)
@@ -28,7 +28,7 @@ pub record StepsBoth (a b : Schedule) (h : History) (words : List ℕ) (now inpu
   pub second : e ≡ (answer_of b ((now, input) ∷ h)).decision
   pub visited : after ≡ before + visits a ((now, input) ∷ h) + visits b ((now, input) ∷ h)
 
--- the same for the two parts of `andThenEither`; the operator's visit was counted before
+-- a step of the parts of `andThenEither` after a history; the operator's visit was counted before
 pub record StepsThen (a b : Schedule) (h : History) (words : List ℕ) (now input : ℕ) (d : Decision)
     (before after : ℕ) : Type 0 where
   pub held : words ≡ held_of (two and_then a b) ((now, input) ∷ h)

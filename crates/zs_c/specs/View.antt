@@ -20,7 +20,7 @@ pub record Tells (code words : List ℕ) (levels : ℕ) (o : Output) : Type 0 wh
   pub held : words ≡ held_of term history
   pub output : o ≡ (answer_of term history).output
 
--- the same for a place
+-- a place represents an output
 abbrev pub PlaceTells : Place → Output → Type 0
 PlaceTells p o = Tells p.code.now p.words.now p.levels o
 

@@ -84,7 +84,7 @@ pub struct BoundsTold {
     pub total: u64,
     /// 1 if `longest_run` is a bound, else 0.
     pub has_longest_run: u64,
-    /// Each attempt ends at most this long after the begin of the first, in milliseconds.
+    /// Each attempt ends less than this after the begin of the first, in milliseconds.
     pub longest_run: u64,
 }
 
@@ -103,7 +103,7 @@ impl BoundsTold {
             has_total: u64::from(bounds.total.is_some()),
             total: bounds.total.unwrap_or(0),
             has_longest_run: u64::from(bounds.longest_run.is_some()),
-            longest_run: bounds.longest_run.unwrap_or(0),
+            longest_run: bounds.longest_run.map_or(0, |run| run.saturating_add(1)),
         }
     }
 }

@@ -2,7 +2,7 @@
 //!
 //! No call stores anything. `zs_check` returns whether a text is a schedule. `zs_bounds` returns
 //! what that schedule does for every input. `zs_compile` writes it as a program, whose state is a
-//! fixed number of words, which the caller stores; they have the size of a list, not its elements.
+//! fixed number of words, which the caller stores. Of a list the state has the size alone.
 //! `zs_program_step` steps the program, and `zs_output` returns the output of its last step.
 //! `zs_plan` steps it at the end of an attempt, and plans the next one.
 //!

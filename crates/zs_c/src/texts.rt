@@ -24,6 +24,7 @@ pub(crate) fn fault_words(number: u32) -> &'static str
         15 => "no kind",
         16 => "window is 0",
         17 => "a struct of another size",
+        18 => "no state of this version",
         _ => "",
     }
 }

@@ -14,17 +14,25 @@ use Rattle.zs_drive.specs.declared.task.Task.TheInside.{Inside}
 use Rattle.zs_drive.specs.Fields.{IsTask}
 
 -- no poll was done yet
-pub IsOnTimeline-new : (job : JobRecord) → IsOnTimeline job (record { attempts = []; due = Some job.start; ending = None }) 0
+pub IsOnTimeline-new : (job : JobRecord) →
+    IsOnTimeline job (record { attempts = []; due = Some job.start; ending = None }) 0
 unfolding timeline_of from poll_moments RisesFrom AllBefore
-IsOnTimeline-new job = record { same = refl; clock = record { rises = tt; bounded = tt }; counted = refl; few = omega arith }
+IsOnTimeline-new job = record {
+  same = refl;
+  clock = record { rises = tt; bounded = tt };
+  counted = refl;
+  few = omega arith;
+}
 
 -- a new task has no moments
 pub moments-none : poll_moments [] ≡ []
 unfolding poll_moments
 moments-none = refl
 
-pub IsTask-new : (t : Inside) (p : Progress) → t.progress.value ≡ p → p.phase ≡ Waiting p.start → p.polls ≡ 0 → p.seen ≡ 0
-    → p.records.items ≡ [] → StandsFor p.schedule [] → IsScript p.script → t.broken ≡ false → IsTask t
+pub IsTask-new : (t : Inside) (p : Progress) → t.progress.value ≡ p → p.phase ≡ Waiting p.start
+    → p.polls ≡ 0 → p.seen ≡ 0
+    → p.records.items ≡ [] → StandsFor p.schedule [] → IsScript p.script
+    → t.broken ≡ false → IsTask t
 unfolding AllContinued
 IsTask-new t p is phase polls seen none stands script whole =
     let progress : IsProgress p = record {
@@ -32,7 +40,9 @@ IsTask-new t p is phase polls seen none stands script whole =
       phase = rw (none, phase) tt;
       bounded = rw seen (omega arith);
     } in
-    let state : HasState p = rw (none, phase) (record { stands = stands; past = let last = stands.last in omega arith }) in
+    let state : HasState p =
+    rw (none, phase)
+    (record { stands = stands; past = let last = stands.last in omega arith }) in
     record {
       progress = rw is progress;
       state = λ _. rw is state;

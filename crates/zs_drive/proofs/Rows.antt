@@ -5,7 +5,8 @@ use Rattle.zs_effect.specs.declared.script.Beat.{Beat}
 use Rattle.zs_effect.specs.declared.script.Outcome.{Outcome}
 use Rattle.zs_effect.specs.declared.script.Outcome.TheVariants.{Good, Bad}
 use Rattle.zs_term.specs.Output.{Output, number, pair, left, right, listed, none, more}
-use Rattle.zs_term.specs.Schedule.{Schedule, leaf, two, over, recurs, spaced, fixed, exponential, identity, both, either, and_then, while_input, collect_all}
+use Rattle.zs_term.specs.Schedule.{Schedule, leaf, two, over, recurs, spaced, fixed, exponential}
+use Rattle.zs_term.specs.Schedule.{identity, both, either, and_then, while_input, collect_all}
 use Rattle.zs_term.specs.Saturating.{max_moment}
 use Rattle.zs_term.specs.declared.term.Test.{Test}
 use Rattle.zs_term.specs.declared.term.Cmp.TheVariants.{Lt, Eq}
@@ -19,7 +20,8 @@ use Rattle.zs_drive.specs.declared.record.Ending.TheVariants.{Succeeded, Failed,
 use Rattle.zs_drive.specs.Clocks.{first_tick_from}
 use Rattle.zs_drive.specs.Values.{JobRecord, AttemptedValue}
 use Rattle.zs_drive.specs.Recorded.{runs}
-use Rattle.zs_drive.specs.Timeline.{Timeline, timeline_of, from, from_begin, from_wait, by_outcome, by_answer, poll_moments}
+use Rattle.zs_drive.specs.Timeline.{Timeline, timeline_of, from, from_begin, from_wait, by_outcome}
+use Rattle.zs_drive.specs.Timeline.{by_answer, poll_moments}
 use Rattle.zs_drive.specs.DriverLaws.{polls_on}
 
 -- n ticks, from b on
@@ -47,7 +49,8 @@ bad ms code = record { ms = ms; outcome = Bad code }
 
 -- an attempt whose outcome ended the job
 abbrev last : ℕ → ℕ → Outcome → AttemptedValue
-last s e outcome = record { begun = s; ended = Some (record { at = e; outcome = outcome; step = None }) }
+last s e outcome =
+    record { begun = s; ended = Some (record { at = e; outcome = outcome; step = None }) }
 
 -- an attempt with the schedule's result
 abbrev asked : ℕ → ℕ → Outcome → Output → Decision → AttemptedValue
@@ -82,7 +85,12 @@ record Row : Type 0 where
   polls : List ℕ
 
 abbrev row : JobRecord → List ℕ → Timeline → List ℕ → Row
-row job ticks timeline polls = record { job = job; ticks = ticks; timeline = timeline; polls = polls }
+row job ticks timeline polls = record {
+  job = job;
+  ticks = ticks;
+  timeline = timeline;
+  polls = polls;
+}
 
 abbrev rows : List Row
 rows =

@@ -16,7 +16,8 @@ module _ (t : Inside) (is : IsTask t) (task : TaskValue) (view : task_of t ≡ t
 
   -- it was polled when its attempts began and ended
   pub polled-moments : task.moments ≡ poll_moments (current_timeline task).attempts
-  polled-moments = ap (λ (v : TaskValue). v.moments) (sym view) ∙ ap (λ (l : Timeline). poll_moments l.attempts) (sym stands)
+  polled-moments = ap (λ (v : TaskValue). v.moments) (sym view)
+      ∙ ap (λ (l : Timeline). poll_moments l.attempts) (sym stands)
 
   pub polled-clock : AreTicks task.moments
   polled-clock = rw (polled-moments, stands) is.progress.on_timeline.clock
@@ -28,7 +29,8 @@ module _ (t : Inside) (is : IsTask t) (task : TaskValue) (view : task_of t ≡ t
   records-few =
       let few = is.progress.on_timeline.few in
       let counted = is.progress.on_timeline.counted in
-      let clock = length-clock (poll_moments (attempts_of t.progress.value)) is.progress.on_timeline.clock in
+      let clock = length-clock (poll_moments (attempts_of t.progress.value))
+      is.progress.on_timeline.clock in
       omega (arith, few, counted, clock, length-map t.progress.value.records.items attempted_of)
 
 pub ruleset standing = (stands, polled-moments, polls-counted)

@@ -84,7 +84,7 @@ impl Script {
     pub fn beat(&self, k: u64) -> Beat
         requires counted { 1 ≤ k }
         ensures beat { result ≡ entry_at self.now k }
-        // What is true of every script.
+        // It has an entry, no more than it may have, and each lasts at least 1 ms.
         ensures lawful { IsScript self.now }
     {
         let last = self.beats.len() as u64;

@@ -1,5 +1,6 @@
 -- The ticks of a clock as a list.
-use Rattle.std.proofs.Common.{◌≡◌, ℕ, zero, suc, ◌+◌, ◌≤◌, ◌<◌, List, [], ◌∷◌, nat_le, cond, true, false, Contains, if◌then◌else◌, refl, sym, ap, arith, nat_cmp}
+use Rattle.std.proofs.Common.{◌≡◌, ℕ, zero, suc, ◌+◌, ◌≤◌, ◌<◌, List, [], ◌∷◌, nat_le, cond, true}
+use Rattle.std.proofs.Common.{false, Contains, if◌then◌else◌, refl, sym, ap, arith, nat_cmp}
 use Rattle.std.specs.Prelude.{Some, None}
 use Rattle.std.specs.List.Sorted.{IsStrictlySortedBy}
 use Rattle.std.specs.declared.cmp.Ordering.TheVariants.{Less}
@@ -24,20 +25,27 @@ unfolding RisesFrom moments_from
 RisesFrom-moments a b zero h = tt
 RisesFrom-moments a b (suc n) h = (h, RisesFrom-moments (b + 1) (b + 1) n (omega arith))
 
-first_tick_from-moments : (b n x : ℕ) → b ≤ x → x < b + n → first_tick_from (moments_from b n) x ≡ Some x
+first_tick_from-moments : (b n x : ℕ) → b ≤ x → x < b + n →
+    first_tick_from (moments_from b n) x ≡ Some x
 unfolding first_tick_from moments_from
 first_tick_from-moments b zero x h l = absurd (omega arith)
 first_tick_from-moments b (suc n) x h l =
-    tick_cases b x (λ t. (if t then Some b else first_tick_from (moments_from (b + 1) n) x) ≡ Some x)
-    (λ k. first_tick_from-moments (b + 1) n x (omega arith) (omega arith)) (λ k. let same : b ≡ x = omega arith in ap (λ (m : ℕ). Some m) same)
+    tick_cases b x
+    (λ t. (if t then Some b else first_tick_from (moments_from (b + 1) n) x) ≡ Some x)
+    (λ k. first_tick_from-moments (b + 1) n x (omega arith) (omega arith)) (λ k. let same : b ≡ x =
+    omega arith in ap (λ (m : ℕ). Some m) same)
 
 -- the clock's first tick is the least one of its list
 pub first_tick-is : (c : Ticks) (due : ℕ) → first_tick c due ≡ first_tick_from (ticks_of c) due
 unfolding ticks_of first_tick_from
 first_tick-is (every_ms last) due =
-    elim (nat_le due last) as (λ b. nat_le due last ≡ b → cond b (Some due) None ≡ first_tick_from (moments_from 0 (last + 1)) due) [
-      | true ↦ λ is. let within : due ≤ last = grind (arith, nat_tests) in sym (first_tick_from-moments 0 (last + 1) due (omega arith) (omega arith))
-      | false ↦ λ is. let past : last + 1 ≤ due = grind (arith, nat_tests) in sym (first_tick_from-past (moments_from 0 (last + 1)) (last + 1) due (AllBefore-moments 0 (last + 1) (last + 1) (omega arith)) past)
+    elim (nat_le due last) as (λ b. nat_le due last ≡ b →
+    cond b (Some due) None ≡ first_tick_from (moments_from 0 (last + 1)) due) [
+      | true ↦ λ is. let within : due ≤ last = grind (arith, nat_tests) in
+          sym (first_tick_from-moments 0 (last + 1) due (omega arith) (omega arith))
+      | false ↦ λ is. let past : last + 1 ≤ due = grind (arith, nat_tests) in
+          sym (first_tick_from-past (moments_from 0 (last + 1)) (last + 1) due
+          (AllBefore-moments 0 (last + 1) (last + 1) (omega arith)) past)
     ] refl
 first_tick-is (listed ts) due = refl
 
@@ -49,10 +57,15 @@ listed-end (t ∷ ts) h all =
     let first : t ≤ h = all t (0, (omega arith), refl) in
     (omega arith, listed-end ts h (λ s k. all s (Contains-append_right (t ∷ []) ts s k)))
 
-rises-sorted : (b x : ℕ) (xs : List ℕ) → b ≤ x → IsStrictlySortedBy nat_cmp (x ∷ xs) → RisesFrom b (x ∷ xs)
+rises-sorted : (b x : ℕ) (xs : List ℕ) → b ≤ x → IsStrictlySortedBy nat_cmp (x ∷ xs) →
+    RisesFrom b (x ∷ xs)
 unfolding RisesFrom IsStrictlySortedBy
 rises-sorted b x [] h s = (h, tt)
-rises-sorted b x (y ∷ xs) h s = (h, rises-sorted (x + 1) y xs (let less : nat_cmp x y ≡ Less = s.0.0 in grind (arith, nat_tests)) s.1)
+rises-sorted b x (y ∷ xs) h s = (
+  h,
+  rises-sorted (x + 1) y xs (let less : nat_cmp x y ≡ Less =
+      s.0.0 in grind (arith, nat_tests)) s.1,
+)
 
 pub RisesFrom-sorted : (xs : List ℕ) → IsStrictlySortedBy nat_cmp xs → RisesFrom 0 xs
 unfolding RisesFrom
@@ -60,11 +73,23 @@ RisesFrom-sorted [] s = tt
 RisesFrom-sorted (x ∷ xs) s = rises-sorted 0 x xs (omega arith) s
 
 -- the list of a clock's ticks rises, up to the clock's horizon
-pub ticks-rising : (c : Ticks) → IsClock c → drive.AreTicks (ticks_of c) × AllBefore (ticks_of c) (horizon c + 1)
+pub ticks-rising : (c : Ticks) → IsClock c →
+    drive.AreTicks (ticks_of c) × AllBefore (ticks_of c) (horizon c + 1)
 unfolding ticks_of
-ticks-rising (every_ms last) lawful =
-    (record { rises = RisesFrom-moments 0 0 (last + 1) (omega arith); bounded = AllBefore-moments 0 (last + 1) (max_tick + 1) (omega (arith, lawful)) }, AllBefore-moments 0 (last + 1) (last + 1) (omega arith))
+ticks-rising (every_ms last) lawful = (
+  record {
+    rises = RisesFrom-moments 0 0 (last + 1) (omega arith);
+    bounded = AllBefore-moments 0 (last + 1) (max_tick + 1) (omega (arith, lawful));
+  },
+  AllBefore-moments 0 (last + 1) (last + 1) (omega arith),
+)
 ticks-rising (listed ts) lawful =
     let end = listed-end ts (horizon (listed ts)) (last-tick ts lawful.rising) in
-    let rises = RisesFrom-sorted ts (sorted_from_strictly_increasing ts lawful.rising) in
-    (record { rises = rises; bounded = AllBefore-later ts (horizon (listed ts) + 1) (max_tick + 1) end (omega (arith, lawful.limit)) }, end)
+    let rises = RisesFrom-sorted ts (sorted_from_strictly_increasing ts lawful.rising) in (
+      record {
+        rises = rises;
+        bounded = AllBefore-later ts (horizon (listed ts) + 1) (max_tick + 1) end
+            (omega (arith, lawful.limit));
+      },
+      end,
+    )

@@ -136,7 +136,8 @@ impl Engine {
         Ok(())
     }
 
-    // One round: the tasks that are due at `now` are taken out, polled, and put back.
+    // One round: the tasks that are due at `now` are taken out, polled, and put back. The list that
+    // they are taken to serves each round.
     fn run_round<G: Gate, R: Threads + Wait + Sync>(
         &mut self,
         rt: &R,
@@ -144,19 +145,20 @@ impl Engine {
         polling: &mut Polling<'_, G>,
         now: u64,
         numbers: &[u64],
-    ) -> Result<(), EngineFault>
+        room: Vec<Task>,
+    ) -> Result<Vec<Task>, EngineFault>
         requires due { IsDueAt now numbers.now self.old }
         ensures round { OnOk result (HasRunRound now self.old self.new) }
     {
-        let due = take_tasks(self.alloc, &mut self.slots, numbers)?;
-        let polled = match round_in(rt, cut, polling, &self.tally, &mut self.seat, now, due) {
+        let due = take_tasks(&mut self.slots, numbers, room)?;
+        let mut polled = match round_in(rt, cut, polling, &self.tally, &mut self.seat, now, due) {
             Ok(polled) => polled,
             Err(fault) => return Err(round_fault(fault)),
         };
-        for task in polled {
+        for task in polled.drain(..) {
             self.put_back(task)?;
         }
-        Ok(())
+        Ok(polled)
     }
 
     // The rounds, under one context.
@@ -171,8 +173,9 @@ impl Engine {
         ensures same { OnOk result (IsSameRun self.old self.new) }
         ensures over { OnOk result (self.new.agenda.moments ≡ empty) }
     {
+        let mut room = Vec::new(self.alloc);
         while let Some((now, numbers)) = self.agenda.take()? {
-            self.run_round(rt, cut, polling, now, &numbers)?;
+            room = self.run_round(rt, cut, polling, now, &numbers, room)?;
         }
         Ok(())
     }

@@ -4,7 +4,6 @@ ghost use Rattle.zs_drive.specs.Tasks.{TaskValue};
 ghost use Rattle.zs_engine.specs.Slots.{Picks, emptied, IsDistinct};
 
 use crate::fault::EngineFault;
-use std::alloc::Global;
 use zs_drive::Task;
 
 // Takes the task out of one slot.
@@ -20,18 +19,18 @@ fn take_task(slots: &mut Vec<Option<Task>>, number: u64) -> Task
     task
 }
 
-// Takes the tasks out of these slots, in order.
+// Takes the tasks out of these slots, in order, into a list in place of what it has.
 pub(crate) fn take_tasks(
-    alloc: Global,
     slots: &mut Vec<Option<Task>>,
     numbers: &[u64],
+    mut tasks: Vec<Task>,
 ) -> Result<Vec<Task>, EngineFault>
     requires filled { (tasks : List TaskValue) × Picks slots.old.items numbers.now tasks }
     requires distinct { IsDistinct numbers.now }
     ensures picks { IfOk result (λ tasks. Picks slots.old.items numbers.now tasks.items) }
     ensures emptied { OnOk result (slots.new.items ≡ emptied slots.old.items numbers.now) }
 {
-    let mut tasks = Vec::with_capacity(alloc, numbers.len())?;
+    tasks.clear();
     for number in numbers {
         tasks.push(take_task(slots, *number))?;
     }

@@ -1,6 +1,6 @@
 -- Worked jobs, each worked out by hand from docs/SEMANTICS.md, and the bounds of their schedule.
 -- They hold by computing, but for those that apply the laws: jobs can satisfy their premises.
-use Rattle.std.proofs.Common.{◌≡◌, ℕ, zero, suc, ◌≤◌, ◌+◌, List, [], ◌∷◌, length, map, refl, arith}
+use Rattle.std.proofs.Common.{◌≡◌, ℕ, zero, suc, ◌≤◌, ◌+◌, List, [], ◌∷◌, length, map, refl, arith, false}
 use Rattle.std.specs.Prelude.{Option, Some, None}
 use Rattle.std.specs.List.{All}
 use Rattle.zs_term.specs.Saturating.{max_moment}
@@ -67,9 +67,11 @@ of_3_ms = record {
 abbrev three : ℕ → ℕ → Option ℕ → Bounds
 three longest total run = record {
   seen = 3;
+  is_cut = false;
   least = 3;
   most = Some 3;
   longest = longest;
+  every = Some longest;
   total = Some total;
   longest_run = run;
 }

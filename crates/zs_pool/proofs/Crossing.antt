@@ -12,7 +12,8 @@ use denote.Ref.{NamedLft}
 use denote.Struct.Field.{row_field, shr_ref_field}
 use denote.Struct.Tuple.{Tuple, tuple_type, TupleAt, type_at, parts}
 use denote.Param.SendFields.{FieldsHave, declared_send, declared_sync, as_row_send}
-use Rattle.std.proofs.Crossing.{Box-send, Vec-send, crosses, send as heap_send, sync as heap_sync, frees}
+use Rattle.std.proofs.Crossing.{Box-send, Vec-send, crosses, send as heap_send, sync as heap_sync}
+use Rattle.std.proofs.Crossing.{frees}
 use Rattle.std.specs.contracts.impls.GlobalAllocator.TheImpl as heap
 use Rattle.std.proofs.option.Option.TheSendSync as option
 use Rattle.std.specs.contracts.option.Option as option_type
@@ -36,10 +37,12 @@ use Rattle.zs_pool.proofs.board.counter.CounterSeat.TheSendSync as counter_seat
 use Rattle.zs_pool.proofs.board.counter.Counter.TheSendSync as counter
 
 out_send : IsSend terms.outputs.Out.the_row
-out_send = as_row_send terms.outputs.Out.the_field (search (crosses, out_knot.crosses_both, sendable) depth 60 fits 20000)
+out_send = as_row_send terms.outputs.Out.the_field
+    (search (crosses, out_knot.crosses_both, sendable) depth 60 fits 20000)
 
 outs_send : IsSend terms.outputs.Outs.the_row
-outs_send = as_row_send terms.outputs.Outs.the_field (search (crosses, out_knot.crosses_both, sendable) depth 60 fits 20000)
+outs_send = as_row_send terms.outputs.Outs.the_field
+    (search (crosses, out_knot.crosses_both, sendable) depth 60 fits 20000)
 
 collected_send : IsSend steps.collected.Collected.the_row
 collected_send = declared_send steps.collected.Collected.the_type (outs_send, (search sendable, tt))
@@ -52,58 +55,146 @@ tuple_send : (Ts : List RattleType) → AllSend Ts → IsSend (Tuple Ts)
 tuple_send Ts s = declared_send (tuple_type Ts) (parts_send Ts s)
 
 state_send : IsSend steps.state.State.the_row
-state_send = as_row_send steps.state.State.the_field (state_knot.send-State leaf.the_field_send (λ h s. Box-send (Tuple (h ∷ h ∷ [])) (tuple_send (h ∷ h ∷ []) (s, (s, tt)))) (search (rules, sendable)) Box-send (search (rules, sendable)) (search (rules, sendable)) (Box-send steps.collected.Collected.the_row collected_send) (search (rules, sendable)))
+state_send = as_row_send steps.state.State.the_field
+    (state_knot.send-State leaf.the_field_send
+    (λ h s. Box-send (Tuple (h ∷ h ∷ [])) (tuple_send (h ∷ h ∷ []) (s, (s, tt))))
+    (search (rules, sendable)) Box-send (search (rules, sendable)) (search (rules, sendable))
+    (Box-send steps.collected.Collected.the_row collected_send) (search (rules, sendable)))
 
 term_send : IsSend terms.term.Term.the_row
-term_send = as_row_send terms.term.Term.the_field (search (crosses, term_knot.crosses_both, sendable) depth 60 fits 20000)
+term_send = as_row_send terms.term.Term.the_field
+    (search (crosses, term_knot.crosses_both, sendable) depth 60 fits 20000)
 
 kind_send : IsSend terms.kind.Kind.the_row
-kind_send = as_row_send terms.kind.Kind.the_field (search (crosses, kind_knot.crosses_both, sendable) depth 60 fits 20000)
+kind_send = as_row_send terms.kind.Kind.the_field
+    (search (crosses, kind_knot.crosses_both, sendable) depth 60 fits 20000)
 
 checked_send : IsSend terms.checked.Checked.the_row
-checked_send = view_send terms.checked.Checked.TheInside.the_row _ _ _ _ (declared_send terms.checked.Checked.TheInside.the_type (term_send, (kind_send, tt)))
+checked_send = view_send terms.checked.Checked.TheInside.the_row _ _ _ _
+    (declared_send terms.checked.Checked.TheInside.the_type (term_send, (kind_send, tt)))
 
 compiled_send : IsSend steps.compiled.Compiled.the_row
-compiled_send = declared_send steps.compiled.Compiled.the_type (state_send, (search sendable, (search sendable, (heap_send, (checked_send, tt)))))
+compiled_send = declared_send steps.compiled.Compiled.the_type
+    (state_send, (search sendable, (search sendable, (heap_send, (checked_send, tt)))))
 
 ended_send : IsSend drive.record.Ended.the_row
-ended_send = declared_send drive.record.Ended.the_type (search sendable, (search (rules, sendable), (option.the_send _ (search (rules, sendable, out_send, decision.the_send) depth 20), tt)))
+ended_send = declared_send drive.record.Ended.the_type (
+  search sendable,
+  (
+    search (rules, sendable),
+    (option.the_send _ (search (rules, sendable, out_send, decision.the_send) depth 20), tt),
+  ),
+)
 
 attempted_send : IsSend drive.record.Attempted.the_row
-attempted_send = declared_send drive.record.Attempted.the_type (search sendable, (option.the_send drive.record.Ended.the_row ended_send, tt))
+attempted_send = declared_send drive.record.Attempted.the_type
+    (search sendable, (option.the_send drive.record.Ended.the_row ended_send, tt))
 
 progress_send : IsSend drive.progress.Progress.the_row
-progress_send = declared_send drive.progress.Progress.the_type (search (rules, sendable), (search sendable, (search sendable, (search (rules, sendable), (search (rules, sendable, crosses) depth 20, (Vec-send drive.record.Attempted.the_row attempted_send, (compiled_send, (search (rules, sendable, crosses) depth 20, (search sendable, tt)))))))))
+progress_send = declared_send drive.progress.Progress.the_type (
+  search (rules, sendable),
+  (
+    search sendable,
+    (
+      search sendable,
+      (
+        search (rules, sendable),
+        (
+          search (rules, sendable, crosses) depth 20,
+          (
+            Vec-send drive.record.Attempted.the_row attempted_send,
+            (compiled_send, (search (rules, sendable, crosses) depth 20, (search sendable, tt))),
+          ),
+        ),
+      ),
+    ),
+  ),
+)
 
 task_send : IsSend drive.task.Task.the_row
-task_send = view_send drive.task.Task.TheInside.the_row _ _ _ _ (declared_send drive.task.Task.TheInside.the_type (search sendable, (Box-send drive.progress.Progress.the_row progress_send, (search sendable, tt))))
+task_send = view_send drive.task.Task.TheInside.the_row _ _ _ _
+    (declared_send drive.task.Task.TheInside.the_type (
+      search sendable,
+      (
+        Box-send drive.progress.Progress.the_row progress_send,
+        (search sendable, tt),
+      ),
+    ))
 
 batch_send : IsSend pool.batch.Batch.the_row
-batch_send = view_send pool.batch.Batch.TheInside.the_row _ _ _ _ (declared_send pool.batch.Batch.TheInside.the_type (search sendable, (Vec-send drive.task.Task.the_row task_send, tt)))
+batch_send = view_send pool.batch.Batch.TheInside.the_row _ _ _ _
+    (declared_send pool.batch.Batch.TheInside.the_type
+    (search sendable, (Vec-send drive.task.Task.the_row task_send, tt)))
 
 polled_send : IsSend pool.polled.Polled.the_row
-polled_send = view_send pool.polled.Polled.TheInside.the_row _ _ _ _ (declared_send pool.polled.Polled.TheInside.the_type (search sendable, (search sendable, (Vec-send drive.task.Task.the_row task_send, tt))))
+polled_send = view_send pool.polled.Polled.TheInside.the_row _ _ _ _
+    (declared_send pool.polled.Polled.TheInside.the_type
+    (search sendable, (search sendable, (Vec-send drive.task.Task.the_row task_send, tt))))
 
 pub board_pass_send : IsSend pool.board.BoardPass.the_row
-board_pass_send = view_send pool.board.BoardPass.TheInside.the_row _ _ _ _ (declared_send pool.board.BoardPass.TheInside.the_type (seat.the_send (option_type.the_row pool.batch.Batch.the_row) _ (option.the_send pool.batch.Batch.the_row batch_send), (counter_seat.the_send, (search sendable, tt))))
+board_pass_send = view_send pool.board.BoardPass.TheInside.the_row _ _ _ _
+    (declared_send pool.board.BoardPass.TheInside.the_type (
+      seat.the_send (option_type.the_row pool.batch.Batch.the_row) _
+          (option.the_send pool.batch.Batch.the_row batch_send),
+      (counter_seat.the_send, (search sendable, tt)),
+    ))
 
 pub shelf_pass_send : IsSend pool.shelf.ShelfPass.the_row
-shelf_pass_send = view_send pool.shelf.ShelfPass.TheInside.the_row _ _ _ _ (declared_send pool.shelf.ShelfPass.TheInside.the_type (seat.the_send (option_type.the_row pool.polled.Polled.the_row) _ (option.the_send pool.polled.Polled.the_row polled_send), tt))
+shelf_pass_send = view_send pool.shelf.ShelfPass.TheInside.the_row _ _ _ _
+    (declared_send pool.shelf.ShelfPass.TheInside.the_type (
+      seat.the_send (option_type.the_row pool.polled.Polled.the_row) _
+          (option.the_send pool.polled.Polled.the_row polled_send),
+      tt,
+    ))
 
 pub rights_send : IsSend pool.rounds.shared.Rights.the_row
-rights_send = declared_send pool.rounds.shared.Rights.the_type (board_pass_send, (shelf_pass_send, (tally_seat_sent.the_send, tt)))
+rights_send = declared_send pool.rounds.shared.Rights.the_type
+    (board_pass_send, (shelf_pass_send, (tally_seat_sent.the_send, tt)))
 
 pub served_send : IsSend pool.rounds.workers.Served.the_row
-served_send = declared_send pool.rounds.workers.Served.the_type (rights_send, (result.the_send _ _ (Vec-send pool.polled.Polled.the_row polled_send) (search (rules, sendable)), tt))
+served_send = declared_send pool.rounds.workers.Served.the_type (
+  rights_send,
+  (
+    result.the_send _ _ (Vec-send pool.polled.Polled.the_row polled_send)
+        (search (rules, sendable)),
+    tt,
+  ),
+)
 
 pub board_sync : IsSync pool.board.Board.the_row
-board_sync = view_sync pool.board.Board.TheInside.the_row _ _ _ _ (declared_sync pool.board.Board.TheInside.the_type (slotted.the_sync (option_type.the_row pool.batch.Batch.the_row) (queue.Doing.the_row pool.batch.Batch.the_row (pool.board.rule.Claims.the_row pool.batch.Batch.the_row)) (queue.Turns.the_row pool.board.rule.InTurn.the_row) global.the_row (queue.TurnsTableRuleOptionDoingUnit.TheImpl.ghosts pool.batch.Batch.the_row (pool.board.rule.Claims.the_row pool.batch.Batch.the_row) pool.board.rule.InTurn.the_row (pool.board.rule.InTurnProtocolClaims.TheImpl.ghosts pool.batch.Batch.the_row) queue.TurnsTableRuleOptionDoingUnit.TheImpl.no_dict) heap.ghosts (option.the_send pool.batch.Batch.the_row batch_send) heap_send heap_sync frees, (counter.the_sync, (search sendable, tt))))
+board_sync = view_sync pool.board.Board.TheInside.the_row _ _ _ _
+    (declared_sync pool.board.Board.TheInside.the_type (
+      slotted.the_sync (option_type.the_row pool.batch.Batch.the_row)
+          (queue.Doing.the_row pool.batch.Batch.the_row
+          (pool.board.rule.Claims.the_row pool.batch.Batch.the_row))
+          (queue.Turns.the_row pool.board.rule.InTurn.the_row) global.the_row
+          (queue.TurnsTableRuleOptionDoingUnit.TheImpl.ghosts pool.batch.Batch.the_row
+          (pool.board.rule.Claims.the_row pool.batch.Batch.the_row) pool.board.rule.InTurn.the_row
+          (pool.board.rule.InTurnProtocolClaims.TheImpl.ghosts pool.batch.Batch.the_row)
+          queue.TurnsTableRuleOptionDoingUnit.TheImpl.no_dict) heap.ghosts
+          (option.the_send pool.batch.Batch.the_row batch_send) heap_send heap_sync frees,
+      (counter.the_sync, (search sendable, tt)),
+    ))
 
 pub shelf_sync : IsSync pool.shelf.Shelf.the_row
-shelf_sync = view_sync pool.shelf.Shelf.TheInside.the_row _ _ _ _ (declared_sync pool.shelf.Shelf.TheInside.the_type (slotted.the_sync (option_type.the_row pool.polled.Polled.the_row) (queue.Doing.the_row pool.polled.Polled.the_row (pool.shelf.rule.Hands.the_row pool.polled.Polled.the_row)) (queue.Turns.the_row pool.shelf.rule.EachOnce.the_row) global.the_row (queue.TurnsTableRuleOptionDoingUnit.TheImpl.ghosts pool.polled.Polled.the_row (pool.shelf.rule.Hands.the_row pool.polled.Polled.the_row) pool.shelf.rule.EachOnce.the_row (pool.shelf.rule.EachOnceProtocolHands.TheImpl.ghosts pool.polled.Polled.the_row) queue.TurnsTableRuleOptionDoingUnit.TheImpl.no_dict) heap.ghosts (option.the_send pool.polled.Polled.the_row polled_send) heap_send heap_sync frees, tt))
+shelf_sync = view_sync pool.shelf.Shelf.TheInside.the_row _ _ _ _
+    (declared_sync pool.shelf.Shelf.TheInside.the_type (
+      slotted.the_sync (option_type.the_row pool.polled.Polled.the_row)
+          (queue.Doing.the_row pool.polled.Polled.the_row
+          (pool.shelf.rule.Hands.the_row pool.polled.Polled.the_row))
+          (queue.Turns.the_row pool.shelf.rule.EachOnce.the_row) global.the_row
+          (queue.TurnsTableRuleOptionDoingUnit.TheImpl.ghosts pool.polled.Polled.the_row
+          (pool.shelf.rule.Hands.the_row pool.polled.Polled.the_row)
+          pool.shelf.rule.EachOnce.the_row
+          (pool.shelf.rule.EachOnceProtocolHands.TheImpl.ghosts pool.polled.Polled.the_row)
+          queue.TurnsTableRuleOptionDoingUnit.TheImpl.no_dict) heap.ghosts
+          (option.the_send pool.polled.Polled.the_row polled_send) heap_send heap_sync frees,
+      tt,
+    ))
 
 -- a reference that is captured
-pub reference_send : (l : NamedLft) (R : RattleType) (one : OneType R.mir) → IsSync R → IsSend (as_row (shr_ref_field l R one))
+pub reference_send : (l : NamedLft) (R : RattleType) (one : OneType R.mir) → IsSync R →
+    IsSend (as_row (shr_ref_field l R one))
 reference_send l R one s = as_row_send (shr_ref_field l R one) (shr_send l.mir l.lft R s)
 
 -- what a closure captures

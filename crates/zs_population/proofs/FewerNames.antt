@@ -1,5 +1,6 @@
 -- A line that is a job after some names is the same job after fewer names.
-use Rattle.std.proofs.Common.{◌≡◌, ◌&&◌, not, ℕ, List, ◌++◌, Bool, true, false, Some, Result, Ok, Err, refl, sym, ◌∙◌}
+use Rattle.std.proofs.Common.{◌≡◌, ◌&&◌, not, ℕ, List, ◌++◌, Bool, true, false, Some, Result, Ok}
+use Rattle.std.proofs.Common.{Err, refl, sym, ◌∙◌}
 use Rattle.std.specs.Prelude.{⊤}
 use Rattle.std.specs.List.{list_all}
 use Rattle.std.specs.Str.{bytes_eq}
@@ -23,7 +24,8 @@ keeps (Err e) f g b goes is = is
 
 -- a name that is new among others is new among fewer
 stays-new : {B : Type 0} (old new : Bool) (fault : PlanFault) (f : ⊤ → Result B PlanFault) (b : B)
-    → (old ≡ false → new ≡ false) → (demand (not old) fault >>= f) ≡ Ok b → (demand (not new) fault >>= f) ≡ Ok b
+    → (old ≡ false → new ≡ false) → (demand (not old) fault >>= f) ≡ Ok b
+    → (demand (not new) fault >>= f) ≡ Ok b
 stays-new true new fault f b less is = absurd (let no : Err fault ≡ Ok b = is in cc)
 stays-new false true fault f b less is = absurd (let no : true ≡ false = less refl in cc)
 stays-new false false fault f b less is = is
@@ -31,7 +33,8 @@ stays-new false false fault f b less is = is
 -- a name that is none of some names is none of the last ones
 none-of-fewer : (front names : List (List ℕ)) (name : List ℕ)
     → is_one_of (front ++ names) name ≡ false → is_one_of names name ≡ false
-none-of-fewer front names name none = (or_parts _ _ (sym (list_any-append (λ k. bytes_eq k name) front names) ∙ none)).1
+none-of-fewer front names name none =
+    (or_parts _ _ (sym (list_any-append (λ k. bytes_eq k name) front names) ∙ none)).1
 
 -- a document that is a job
 tree-fewer : (number : ℕ) (front names : List (List ℕ)) (d : _) (job : JobRecord)
@@ -39,12 +42,14 @@ tree-fewer : (number : ℕ) (front names : List (List ℕ)) (d : _) (job : JobRe
 unfolding job_of
 tree-fewer number front names d job =
     keeps (demand_some (job_parts d) (faults.Shape (Some number))) _ _ job (λ parts.
-    keeps (demand_some (all_of beat_of parts.entries) (faults.Shape (Some number))) _ _ job (λ beats.
+    keeps (demand_some (all_of beat_of parts.entries) (faults.Shape (Some number))) _ _
+    job (λ beats.
     keeps (demand (has_only_keys job_keys d && list_all (has_only_keys entry_keys) parts.entries)
     (faults.UnknownKey (Some number))) _ _ job (λ keys.
     keeps (demand_some (mode_of parts.mode) (faults.Range (Some number))) _ _ job (λ mode.
     keeps (demand (is_name parts.name) (faults.Name number)) _ _ job (λ name.
-    stays-new (is_one_of (front ++ names) parts.name) (is_one_of names parts.name) (faults.SameName number) _ job
+    stays-new (is_one_of (front ++ names) parts.name) (is_one_of names parts.name)
+    (faults.SameName number) _ job
     (none-of-fewer front names parts.name))))))
 
 -- bytes that are a job

@@ -1,5 +1,7 @@
 -- All jobs of a population, read block by block.
-use Rattle.std.proofs.Common.{◌≡◌, ◌<◌, ◌≤◌, ◌+◌, ℕ, List, [], ◌∷◌, ◌++◌, length, Bool, Ok, Err, Option, None, Some, refl, sym, ap, ◌∙◌, length-append, arith, String, Global}
+use Rattle.std.proofs.Common.{◌≡◌, ◌≤◌, ◌+◌, ℕ, List, [], ◌∷◌, ◌++◌, length, Bool, Ok}
+use Rattle.std.proofs.Common.{Option, None, Some, refl, sym, length-append, arith, String}
+use Rattle.std.proofs.Common.{Global}
 use Rattle.std.specs.BTreeSet.{BTreeSet}
 use Rattle.std.specs.Io.KnownBytes.{IsAtEnd, prepend_known}
 use Rattle.std.specs.Prelude.{IfSome}
@@ -18,14 +20,17 @@ use Rattle.zs_population.specs.Sums.{HasSums, IsSummed, sums_of}
 use Rattle.zs_population.specs.declared.lines.LineReader.{LineReader}
 use Rattle.zs_population.specs.declared.lines.Sums.{Sums}
 use Rattle.zs_population.specs.declared.fault.PopulationFault.{PopulationFault}
-use Rattle.zs_population.specs.declared.fault.PopulationFault.TheVariants.{Read, Line, Engine, Write, Report, Missing, Words}
+use Rattle.zs_population.specs.declared.fault.PopulationFault.TheVariants.{Read, Line, Engine}
+use Rattle.zs_population.specs.declared.fault.PopulationFault.TheVariants.{Write, Report, Missing}
+use Rattle.zs_population.specs.declared.fault.PopulationFault.TheVariants.{Words}
 use Rattle.zs_population.proofs.JobsLemmas.{jobs-joined, jobs-length, jobs-refused}
 use Rattle.zs_population.proofs.RangeLemmas.{is-population, job-refused, plan_with, skipped-nothing}
 use Rattle.zs_population.proofs.SumLemmas.{sums-ended}
 
 -- The head and some blocks of jobs were read: this number of jobs, with these names. `start` are
 -- the bytes that came next at first, `now` those that come next.
-pub record HasRead (start now : Option (List ℕ)) (names : BTreeSet (String Global)) (count : ℕ) : Type 0 where
+pub record HasRead (start now : Option (List ℕ)) (names : BTreeSet (String Global)) (count : ℕ) :
+    Type 0 where
   pub after : Option (List ℕ)
   pub first : List ℕ
   pub head : HeadRecord
@@ -39,7 +44,8 @@ pub record HasRead (start now : Option (List ℕ)) (names : BTreeSet (String Glo
   pub many : length jobs ≡ count
 
 -- the head was read
-pub head-read : (start now : Option (List ℕ)) (names : BTreeSet (String Global)) (head : HeadRecord) → HeadReads start now head → KnowsNames names [] → HasRead start now names 0
+pub head-read : (start now : Option (List ℕ)) (names : BTreeSet (String Global))
+    (head : HeadRecord) → HeadReads start now head → KnowsNames names [] → HasRead start now names 0
 unfolding jobs_at
 head-read start now names head reads known = record {
   after = now;
@@ -56,12 +62,15 @@ head-read start now names head reads known = record {
 }
 
 -- one more block was read
-pub block-read : (start mid now : Option (List ℕ)) (names known : BTreeSet (String Global)) (count total : ℕ) (more : List JobRecord) → HasRead start mid names count
-    → BlockReads count mid now names known more → total ≡ count + length more → HasRead start now known total
+pub block-read : (start mid now : Option (List ℕ)) (names known : BTreeSet (String Global))
+    (count total : ℕ) (more : List JobRecord) → HasRead start mid names count
+    → BlockReads count mid now names known more → total ≡ count + length more
+    → HasRead start now known total
 block-read start mid now names known count total more done reads is =
     let block = reads (names_of done.jobs) done.known in
     let place : 0 + length done.jobs ≡ count = omega (arith, done.many) in
-    let are : jobs_at (0 + length done.jobs) ([] ++ names_of done.jobs) block.0 ≡ Ok more = rw place block.2 in
+    let are : jobs_at (0 + length done.jobs) ([] ++ names_of done.jobs) block.0 ≡ Ok more =
+    rw place block.2 in
     record {
       after = done.after;
       first = done.first;
@@ -77,27 +86,38 @@ block-read start mid now names known count total more done reads is =
     }
 
 -- the sums of a population that was read to its end
-has-sums : (start now : Option (List ℕ)) (reader : LineReader) (sums : Sums) → IfSome start (λ known. IsSummed (lines_of known) reader now) → IsAtEnd now
-    → ((all : List (List ℕ)) → IsSummed all reader (Some []) → sums ≡ sums_of all) → HasSums start sums
+has-sums : (start now : Option (List ℕ)) (reader : LineReader) (sums : Sums)
+    → IfSome start (λ known. IsSummed (lines_of known) reader now) → IsAtEnd now
+    → ((all : List (List ℕ)) → IsSummed all reader (Some []) → sums ≡ sums_of all)
+    → HasSums start sums
 has-sums None now reader sums is end tells = tt
-has-sums (Some known) now reader sums is end tells = tells (lines_of known) (sums-ended (lines_of known) reader now is end)
+has-sums (Some known) now reader sums is end tells =
+    tells (lines_of known) (sums-ended (lines_of known) reader now is end)
 
 -- the population was read to its end
-pub all-read : (start left : Option (List ℕ)) (buffer : List ℕ) (failed : Bool) (names : BTreeSet (String Global)) (count : ℕ) (reader : LineReader) (found : Sums)
-    → HasRead start (prepend_known buffer left) names count → count ≤ max_population → IsAtEnd (prepend_known buffer left)
-    → IfSome start (λ known. IsSummed (lines_of known) reader (prepend_known buffer left)) → ((all : List (List ℕ)) → IsSummed all reader (Some []) → found ≡ sums_of all)
-    → WasRead (record { before = start; left = left; failed = failed }) (λ plan sums. (count ≡ length plan.jobs) × (found ≡ sums))
+pub all-read : (start left : Option (List ℕ)) (buffer : List ℕ) (failed : Bool)
+    (names : BTreeSet (String Global)) (count : ℕ) (reader : LineReader) (found : Sums)
+    → HasRead start (prepend_known buffer left) names count → count ≤ max_population
+    → IsAtEnd (prepend_known buffer left)
+    → IfSome start (λ known. IsSummed (lines_of known) reader (prepend_known buffer left))
+    → ((all : List (List ℕ)) → IsSummed all reader (Some []) → found ≡ sums_of all)
+    → WasRead (record { before = start; left = left; failed = failed })
+    (λ plan sums. (count ≡ length plan.jobs) × (found ≡ sums))
 all-read start left buffer failed names count reader found done few end summed tells = (
-  plan_with all_jobs start done.after done.after done.first done.head done.took (skipped-nothing done.after) done.is done.jobs,
+  plan_with all_jobs start done.after done.after done.first done.head done.took
+      (skipped-nothing done.after) done.is done.jobs,
   found,
-  is-population all_jobs start done.after done.after done.first done.head done.took (skipped-nothing done.after) done.is left buffer failed done.lines done.jobs done.read done.are
+  is-population all_jobs start done.after done.after done.first done.head done.took
+      (skipped-nothing done.after) done.is left buffer failed done.lines done.jobs
+      done.read done.are
       (omega (arith, done.many, few)) (λ less. end),
   has-sums start (prepend_known buffer left) reader found summed end tells,
   (sym done.many, refl),
 )
 
 -- the head can't be read
-pub head-fails : (start : Option (List ℕ)) (fault : PopulationFault) → HeadFault start fault → PopulationFails start fault
+pub head-fails : (start : Option (List ℕ)) (fault : PopulationFault) → HeadFault start fault →
+    PopulationFails start fault
 head-fails start Read stopped = tt
 head-fails start (Line line fault) stopped = λ other. stopped.1 other all_jobs
 head-fails start (Engine fault) stopped = absurd stopped
@@ -107,17 +127,22 @@ head-fails start (Missing next) stopped = absurd stopped
 head-fails start (Words fault) stopped = absurd stopped
 
 -- the next block can't be read
-pub block-fails : (start mid : Option (List ℕ)) (names : BTreeSet (String Global)) (count : ℕ) (fault : PopulationFault) → HasRead start mid names count → count ≤ max_population
+pub block-fails : (start mid : Option (List ℕ)) (names : BTreeSet (String Global)) (count : ℕ)
+    (fault : PopulationFault) → HasRead start mid names count → count ≤ max_population
     → BlockFault count block_jobs mid names fault → PopulationFails start fault
 block-fails start mid names count Read done few stopped = tt
 block-fails start mid names count (Line line fault) done few stopped = λ other.
     let refused = stopped.3 other (names_of done.jobs) done.known in
     let place : 0 + length done.jobs ≡ count = omega (arith, done.many) in
-    let many : length done.lines ≡ length done.jobs = jobs-length 0 [] done.lines done.jobs done.are in
-    job-refused all_jobs start done.after done.after done.first done.head done.took (skipped-nothing done.after) done.is (done.lines ++ refused.0) (record { line = line; fault = fault })
+    let many : length done.lines ≡ length done.jobs =
+    jobs-length 0 [] done.lines done.jobs done.are in
+    job-refused all_jobs start done.after done.after done.first done.head done.took
+    (skipped-nothing done.after) done.is (done.lines ++ refused.0)
+    (record { line = line; fault = fault })
     (begins-more done.after mid done.lines refused.0 done.read refused.2)
     (omega (arith, length-append done.lines refused.0, refused.1, many, done.many, stopped.2, few))
-    (jobs-refused 0 [] done.lines refused.0 done.jobs (record { line = line; fault = fault }) done.are (rw place refused.3))
+    (jobs-refused 0 [] done.lines refused.0 done.jobs (record { line = line; fault = fault })
+    done.are (rw place refused.3))
 block-fails start mid names count (Engine fault) done few stopped = absurd stopped
 block-fails start mid names count (Write sent) done few stopped = absurd stopped
 block-fails start mid names count (Report number fault) done few stopped = absurd stopped

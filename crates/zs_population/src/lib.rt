@@ -27,4 +27,5 @@ mod words;
 
 pub use fault::{OptionFault, PopulationFault, ReportFault, exit_code, status};
 pub use joining::Files;
+pub use laws::ranges_join;
 pub use program::run_words;

@@ -7,7 +7,8 @@ use Rattle.zs_agenda.specs.Ticks.{every_ms, listed}
 use Rattle.zs_term.specs.Schedule.{leaf, two, recurs, both, exponential}
 use Rattle.zs_term.specs.declared.fault.TermFault.TheVariants as terms
 use Rattle.zs_drive.specs.declared.job.Mode.TheVariants as modes
-use Rattle.zs_drive.specs.Timeline.{timeline_of, from, from_begin, from_wait, by_outcome, by_answer, poll_moments}
+use Rattle.zs_drive.specs.Timeline.{timeline_of, from, from_begin, from_wait, by_outcome, by_answer}
+use Rattle.zs_drive.specs.Timeline.{poll_moments}
 use Rattle.zs_drive.specs.Clocks.{first_tick_from}
 use Rattle.zs_engine.specs.Times.{ticks_of}
 use Rattle.zs_effect.specs.declared.script.Outcome.TheVariants.{Good, Bad}
@@ -87,7 +88,8 @@ documents =
     ∷ (codes "{\"horizon\":1000,\"jobs\":[1]}", Some (faults.Shape (Some 0)))
     ∷ []
 
-documents_have_their_faults : map (λ row. fault_of_text row.0) documents ≡ map (λ row. row.1) documents
+documents_have_their_faults : map (λ row. fault_of_text row.0) documents
+    ≡ map (λ row. row.1) documents
 unfolding plans_on_literals
 documents_have_their_faults = refl
 
@@ -111,7 +113,8 @@ unknown_key = Some (faults.UnknownKey (Some 0))
 -- the text of a job: its name, its mode, its schedule, and its script with the text after it
 abbrev job : List ℕ → List ℕ → List ℕ → List ℕ → List ℕ
 job name mode schedule script =
-    codes "{\"name\":\"" ++ name ++ codes "\",\"mode\":\"" ++ mode ++ codes "\",\"schedule\":\"" ++ schedule
+    codes "{\"name\":\"" ++ name ++ codes "\",\"mode\":\"" ++ mode
+    ++ codes "\",\"schedule\":\"" ++ schedule
     ++ codes "\",\"script\":" ++ script ++ codes "}"
 
 -- a script whose attempts fail
@@ -144,16 +147,19 @@ abbrev lists_of_jobs : List (List ℕ × Option PlanFault)
 lists_of_jobs =
     -- a job without a name
     (
-      codes "{\"mode\":\"retry\",\"schedule\":\"recurs(3)\",\"script\":" ++ failing ++ codes ",\"x\":1}",
+      codes "{\"mode\":\"retry\",\"schedule\":\"recurs(3)\",\"script\":" ++ failing
+          ++ codes ",\"x\":1}",
       wrong_shape,
     )
     -- a mode that is a number
     ∷ (
-      codes "{\"name\":\"a\",\"mode\":1,\"schedule\":\"recurs(3)\",\"script\":" ++ failing ++ codes "}",
+      codes "{\"name\":\"a\",\"mode\":1,\"schedule\":\"recurs(3)\",\"script\":" ++ failing
+          ++ codes "}",
       wrong_shape,
     )
     ∷ (with_script (failing ++ codes ",\"start\":\"0\""), wrong_shape)  -- a start that is a text
-    ∷ (with_script (failing ++ codes ",\"start\":18446744073709551615"), None)  -- the greatest start
+    -- the greatest start
+    ∷ (with_script (failing ++ codes ",\"start\":18446744073709551615"), None)
     ∷ (with_script (codes "{}"), wrong_shape)  -- a script that is an object
     -- an entry with both outcomes
     ∷ (with_script (codes "[{\"ms\":5,\"ok\":1,\"err\":2}]"), wrong_shape)
@@ -204,7 +210,8 @@ lists_of_jobs =
     )
     ∷ []
 
-lists_of_jobs_have_their_faults : map (λ row. fault_of_jobs row.0) lists_of_jobs ≡ map (λ row. row.1) lists_of_jobs
+lists_of_jobs_have_their_faults : map (λ row. fault_of_jobs row.0) lists_of_jobs
+    ≡ map (λ row. row.1) lists_of_jobs
 unfolding plans_on_literals
 lists_of_jobs_have_their_faults = refl
 
@@ -223,7 +230,8 @@ one_retry_job = record {
   } ∷ [];
 }
 
-one_retry_job_read : plan_of (plan_text (with_script (codes "[{\"ms\":5,\"err\":7},{\"ms\":5,\"ok\":1}]"))) ≡ Ok one_retry_job
+one_retry_job_read : plan_of (plan_text
+    (with_script (codes "[{\"ms\":5,\"err\":7},{\"ms\":5,\"ok\":1}]"))) ≡ Ok one_retry_job
 unfolding plans_on_literals
 one_retry_job_read = refl
 
@@ -231,9 +239,11 @@ one_retry_job_read = refl
 abbrev one_job_on_ticks : PlanRecord
 one_job_on_ticks = record one_retry_job { clock = listed (0 ∷ 8 ∷ 20 ∷ 40 ∷ []) }
 
-one_job_on_ticks_reported : report_of one_job_on_ticks ≡ codes "job a retry\nattempt 1 0..8 err 7\nstep 1 out 0 next 8\n"
+one_job_on_ticks_reported : report_of one_job_on_ticks
+    ≡ codes "job a retry\nattempt 1 0..8 err 7\nstep 1 out 0 next 8\n"
     ++ codes "attempt 2 8..20 ok 1\nend succeeded 1 at 20 polls 3\npolls 3\n"
-unfolding ticks_of timeline_of from from_begin from_wait by_outcome by_answer first_tick_from poll_moments digits
+unfolding ticks_of timeline_of from from_begin from_wait by_outcome by_answer first_tick_from
+    poll_moments digits
 one_job_on_ticks_reported = refl
 
 -- a clock, a cut, a repeat job with a start
@@ -253,7 +263,9 @@ one_repeat_job = record {
 
 -- the text of that plan, with keys in another order
 abbrev one_repeat_text : List ℕ
-one_repeat_text = codes "{\"ticks\":[0,8,20,40],\"workers\":64,\"grain\":10000,\"jobs\":[{\"start\":7,\"name\":\"b\",\"mode\":\"repeat\","
+one_repeat_text =
+    codes "{\"ticks\":[0,8,20,40],\"workers\":64,\"grain\":10000,\"jobs\":["
+    ++ codes "{\"start\":7,\"name\":\"b\",\"mode\":\"repeat\","
     ++ codes "\"schedule\":\"(exponential(10) && recurs(3))\",\"script\":[{\"ok\":0,\"ms\":1}]}]}"
 
 one_repeat_job_read : plan_of one_repeat_text ≡ Ok one_repeat_job

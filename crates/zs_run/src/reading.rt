@@ -18,7 +18,7 @@ use zs_pool::{Cut, MAX_TASKS};
 // The most jobs of a plan: the number that a round may poll.
 const MAX_JOBS: usize = MAX_TASKS as usize;
 
-// The plan of a document.
+// Checks the keys of a JSON document, then its clock, cut and jobs, and makes the plan.
 #[tactic(auto, unfolding(crate::specs::Plan::plan_of_tree, crate::specs::Plan::is_cut))]
 fn plan_in(alloc: Global, document: &mut Value) -> Result<Plan, PlanFault>
     ensures plan { Gives plan_record result (plan_of_tree (view document.old)) }

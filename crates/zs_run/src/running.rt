@@ -23,7 +23,7 @@ use zs_pool::Gate;
 // One byte more than a plan may have: enough to know that there are too many.
 const MAX_READ: usize = MAX_BYTES + 1;
 
-// The plan that the reader gives.
+// Reads all bytes that a plan may have, and one more, and parses them as a plan.
 fn read_source<R: Source>(alloc: Global, reader: &mut R) -> Result<Plan, RunFault>
     requires clear { R.mark reader.old ≡ false }
     ensures reads { Reads result

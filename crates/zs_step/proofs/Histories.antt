@@ -1,6 +1,8 @@
 -- Lists of pairs, oldest first, as histories.
-use Rattle.std.proofs.Common.{◌≡◌, ℕ, ◌+◌, ◌-◌, ◌<◌, ◌≤◌, List, [], ◌∷◌, ◌++◌, length, take, get_or, refl, sym, ap, ◌∙◌, arith}
-use Rattle.std.proofs.lemmas.List.{reverse-append, length-reverse, length-take, take_more, take_all, get_or-take}
+use Rattle.std.proofs.Common.{◌≡◌, ℕ, ◌+◌, ◌-◌, ◌<◌, ◌≤◌, List, [], ◌∷◌, ◌++◌, length, take, get_or}
+use Rattle.std.proofs.Common.{refl, sym, ap, ◌∙◌, arith}
+use Rattle.std.proofs.lemmas.List.{reverse-append, length-reverse, length-take, take_more, take_all}
+use Rattle.std.proofs.lemmas.List.{get_or-take}
 use Rattle.zs_step.specs.Answer.{next_run, run_after}
 use Rattle.zs_step.specs.History.{History, history_of, first_moment, earlier}
 
@@ -11,7 +13,8 @@ history-push xs p = reverse-append xs (p ∷ [])
 -- the history after one more pair
 pub history-take : (xs : List (ℕ × ℕ)) (i : ℕ) (d : ℕ × ℕ) → i < length xs →
     history_of (take (i + 1) xs) ≡ get_or xs i d ∷ history_of (take i xs)
-history-take xs i d h = ap history_of (take_more xs i d h) ∙ history-push (take i xs) (get_or xs i d)
+history-take xs i d h =
+    ap history_of (take_more xs i d h) ∙ history-push (take i xs) (get_or xs i d)
 
 -- the last pair and the history before it
 pub history-last : (xs : List (ℕ × ℕ)) (d : ℕ × ℕ) → 0 < length xs →
@@ -31,7 +34,8 @@ length-earlier [] = omega arith
 length-earlier (p ∷ h) = omega arith
 
 -- a later step doesn't change the first moment
-pub first_moment-behind : (p : ℕ × ℕ) (h : History) → 0 < length h → first_moment (p ∷ h) ≡ first_moment h
+pub first_moment-behind : (p : ℕ × ℕ) (h : History) → 0 < length h →
+    first_moment (p ∷ h) ≡ first_moment h
 first_moment-behind p [] l = absurd (omega arith)
 first_moment-behind p (q ∷ h) l = refl
 
@@ -42,7 +46,8 @@ first_moment-last (p ∷ []) q = refl
 first_moment-last (p ∷ (r ∷ h)) q = first_moment-last (r ∷ h) q
 
 -- the first moment of a list that isn't empty
-pub first_moment-list : (xs : List (ℕ × ℕ)) (d : ℕ × ℕ) → 0 < length xs → (get_or xs 0 d).0 ≡ first_moment (history_of xs)
+pub first_moment-list : (xs : List (ℕ × ℕ)) (d : ℕ × ℕ) → 0 < length xs →
+    (get_or xs 0 d).0 ≡ first_moment (history_of xs)
 first_moment-list [] d h = absurd (omega arith)
 first_moment-list (p ∷ xs) d h =
     sym (ap first_moment (reverse-append (p ∷ []) xs) ∙ first_moment-last (history_of xs) p)
@@ -54,12 +59,15 @@ next_run-behind period p [] l = absurd (omega arith)
 next_run-behind period p (q ∷ h) l = refl
 
 -- the next run after one more pair
-pub next_run-take : (period : ℕ) (xs : List (ℕ × ℕ)) (i : ℕ) (d e : ℕ × ℕ) (run r : ℕ) → 0 < i → i < length xs →
-    run ≡ next_run period (history_of (take i xs)) → r ≡ run_after period (get_or xs 0 e).0 run (get_or xs i d).0 →
+pub next_run-take : (period : ℕ) (xs : List (ℕ × ℕ)) (i : ℕ) (d e : ℕ × ℕ) (run r : ℕ) → 0 < i →
+    i < length xs →
+    run ≡ next_run period (history_of (take i xs)) →
+    r ≡ run_after period (get_or xs 0 e).0 run (get_or xs i d).0 →
     r ≡ next_run period (history_of (take (i + 1) xs))
 next_run-take period xs i d e run r some lt before is =
     let n : 0 < length (take i xs) = simp length-take (omega arith) in
-    let m : 0 < length (history_of (take i xs)) = simp (length-history, length-take) (omega arith) in
+    let m : 0 < length (history_of (take i xs)) =
+    simp (length-history, length-take) (omega arith) in
     let f : (get_or xs 0 e).0 ≡ first_moment (history_of (take i xs)) =
     ap (λ (p : ℕ × ℕ). p.0) (sym (get_or-take i xs 0 e some)) ∙ first_moment-list (take i xs) e n in
     is ∙ ap (λ k. run_after period k run (get_or xs i d).0) f

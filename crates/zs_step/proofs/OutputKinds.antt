@@ -1,16 +1,24 @@
 -- The outputs of a schedule have its kind.
-use Rattle.std.proofs.Common.{◌≡◌, Bool, true, false, Option, Some, None, [], ◌∷◌, refl, sym, ap, subst, ◌&&◌, if◌then◌else◌}
+use Rattle.std.proofs.Common.{◌≡◌, Bool, true, false, Option, Some, None, [], ◌∷◌, refl, sym, ap}
+use Rattle.std.proofs.Common.{subst, ◌&&◌, if◌then◌else◌}
 use Rattle.zs_term.specs.declared.term.Pick.{Pick}
 use Rattle.zs_term.specs.declared.term.Func.{Func}
-use Rattle.zs_term.specs.declared.term.Func.TheVariants.{First, Second, Size, Merge, Const, Add, Mul}
-use Rattle.zs_term.specs.Output.{Output, Outputs, number, pair, left, right, listed, none, more, with_last, applied}
-use Rattle.zs_term.specs.OutputKind.{OutputKind, num, pair_of, sum_of, list_of, is_same_kind, HasKind, AllHaveKind}
-use Rattle.zs_term.specs.Schedule.{Schedule, leaf, two, over, Leaf, plain, counted, Pairing, both, either, and_then, Modifier, while_input, while_output, collect_all, mapped, reset_when}
+use Rattle.zs_term.specs.declared.term.Func.TheVariants.{First, Second, Size, Merge, Const, Add}
+use Rattle.zs_term.specs.declared.term.Func.TheVariants.{Mul}
+use Rattle.zs_term.specs.Output.{Output, Outputs, number, pair, left, right, listed, none, more}
+use Rattle.zs_term.specs.Output.{with_last, applied}
+use Rattle.zs_term.specs.OutputKind.{OutputKind, num, pair_of, sum_of, list_of, is_same_kind}
+use Rattle.zs_term.specs.OutputKind.{HasKind, AllHaveKind}
+use Rattle.zs_term.specs.Schedule.{Schedule, leaf, two, over, Leaf, plain, counted, Pairing, both}
+use Rattle.zs_term.specs.Schedule.{either, and_then, Modifier, while_input, while_output}
+use Rattle.zs_term.specs.Schedule.{collect_all, mapped, reset_when}
 use Rattle.zs_term.specs.declared.forms.Plain.TheVariants.{Forever}
 use Rattle.zs_term.specs.declared.forms.Counted.TheVariants.{Recurs}
-use Rattle.zs_term.specs.Kinds.{kind_of, pairing_kind, modifier_kind, answers, joined, where_fits, list_kind, mapped_kind, fits}
+use Rattle.zs_term.specs.Kinds.{kind_of, pairing_kind, modifier_kind, answers, joined, where_fits}
+use Rattle.zs_term.specs.Kinds.{list_kind, mapped_kind, fits}
 use Rattle.zs_step.specs.History.{History, earlier}
-use Rattle.zs_step.specs.Answer.{Answer, leaf_answer, paired, modified, answer_of, is_next, from_done, sequel_of, collect_if, collected, since_reset}
+use Rattle.zs_step.specs.Answer.{Answer, leaf_answer, paired, modified, answer_of, is_next}
+use Rattle.zs_step.specs.Answer.{from_done, sequel_of, collect_if, collected, since_reset}
 
 -- an output has a kind, if there is one
 abbrev pub Has : Output → Option OutputKind → Type 0
@@ -53,7 +61,8 @@ is_same_kind-true (list_of a) (sum_of c d) e = cc
 is_same_kind-true (list_of a) (list_of c) e = ap list_of (is_same_kind-true a c e)
 
 -- a pair
-has-pair : (x y : Output) (o p : Option OutputKind) → Has x o → Has y p → Has (pair x y) (joined pair_of o p)
+has-pair : (x y : Output) (o p : Option OutputKind) → Has x o → Has y p →
+    Has (pair x y) (joined pair_of o p)
 has-pair x y None p s t = tt
 has-pair x y (Some a) None s t = tt
 has-pair x y (Some a) (Some b) s t = (s, t)
@@ -71,7 +80,8 @@ has-right x (Some a) None s = tt
 has-right x (Some a) (Some b) s = s
 
 -- one schedule after another
-has-sequel : (o : Option History) (a : Answer) (b : History → Answer) (k l : Option OutputKind) → Has a.output k → ((h : History) → Has (b h).output l) →
+has-sequel : (o : Option History) (a : Answer) (b : History → Answer) (k l : Option OutputKind) →
+    Has a.output k → ((h : History) → Has (b h).output l) →
     Has (sequel_of o a b).output (joined sum_of k l)
 has-sequel None a b k l s t = has-left a.output k l s
 has-sequel (Some g) a b k l s t = has-right (b g).output k l (t g)
@@ -79,35 +89,44 @@ has-sequel (Some g) a b k l s t = has-right (b g).output k l (t g)
 -- a pick that fits
 has-fits : (k : Pick) (v : Output) (o : Option OutputKind) → Has v o → Has v (where_fits k o)
 has-fits k v None s = tt
-has-fits k v (Some a) s = elim (fits k a) as (λ b. Has v (if b then Some a else None)) [ true ↦ s | false ↦ tt ]
+has-fits k v (Some a) s =
+    elim (fits k a) as (λ b. Has v (if b then Some a else None)) [ true ↦ s | false ↦ tt ]
 
 -- one more output at the end of a list
-all-with_last : (xs : Outputs) (x : Output) (a : OutputKind) → AllHaveKind xs a → HasKind x a → AllHaveKind (with_last xs x) a
+all-with_last : (xs : Outputs) (x : Output) (a : OutputKind) → AllHaveKind xs a → HasKind x a →
+    AllHaveKind (with_last xs x) a
 all-with_last none x a s t = (t, tt)
 all-with_last (more y ys) x a s t = (s.0, all-with_last ys x a s.1 t)
 
 -- one more output, if the schedule continues
-all-collect : (b : Bool) (xs : Outputs) (x : Output) (a : OutputKind) → AllHaveKind xs a → HasKind x a → AllHaveKind (collect_if b xs x) a
+all-collect : (b : Bool) (xs : Outputs) (x : Output) (a : OutputKind) → AllHaveKind xs a →
+    HasKind x a → AllHaveKind (collect_if b xs x) a
 all-collect true xs x a s t = all-with_last xs x a s t
 all-collect false xs x a s t = s
 
 -- a collected list
-all-collected : (f : History → Answer) (a : OutputKind) → ((h : History) → HasKind (f h).output a) → (h : History) → AllHaveKind (collected f h) a
+all-collected : (f : History → Answer) (a : OutputKind) → ((h : History) → HasKind (f h).output a) →
+    (h : History) → AllHaveKind (collected f h) a
 all-collected f a s [] = tt
-all-collected f a s (p ∷ h) = all-collect (is_next (f (p ∷ h)).decision) (collected f h) (f (p ∷ h)).output a (all-collected f a s h) (s (p ∷ h))
+all-collected f a s (p ∷ h) =
+    all-collect (is_next (f (p ∷ h)).decision) (collected f h) (f (p ∷ h)).output a
+    (all-collected f a s h) (s (p ∷ h))
 
 -- a collected list, if its outputs have a kind
-has-list : (f : History → Answer) (o : Option OutputKind) → ((h : History) → Has (f h).output o) → (h : History) → Has (listed (collected f h)) (list_kind o)
+has-list : (f : History → Answer) (o : Option OutputKind) → ((h : History) → Has (f h).output o) →
+    (h : History) → Has (listed (collected f h)) (list_kind o)
 has-list f None s h = tt
 has-list f (Some a) s h = all-collected f a s h
 
 -- the content of a right side, if both sides have the same kind
-has-merged : (x : Output) (a b : OutputKind) (c : Bool) → is_same_kind a b ≡ c → HasKind x b → Has x (if c then Some a else None)
+has-merged : (x : Output) (a b : OutputKind) (c : Bool) → is_same_kind a b ≡ c → HasKind x b →
+    Has x (if c then Some a else None)
 has-merged x a b true e s = subst (HasKind x) (sym (is_same_kind-true a b e)) s
 has-merged x a b false e s = tt
 
 -- the result of a function over an output with a kind
-applied-has : (f : Func) (v : Output) (a : OutputKind) → HasKind v a → Has (applied f v) (answers f a)
+applied-has : (f : Func) (v : Output) (a : OutputKind) → HasKind v a →
+    Has (applied f v) (answers f a)
 applied-has First v num s = tt
 applied-has First (number n) (pair_of a b) s = absurd s
 applied-has First (pair x y) (pair_of a b) s = s.0
@@ -132,7 +151,8 @@ applied-has Merge v num s = tt
 applied-has Merge v (pair_of a b) s = tt
 applied-has Merge (number n) (sum_of a b) s = absurd s
 applied-has Merge (pair x y) (sum_of a b) s = absurd s
-applied-has Merge (left x) (sum_of a b) s = elim (is_same_kind a b) as (λ c. Has x (if c then Some a else None)) [ true ↦ s | false ↦ tt ]
+applied-has Merge (left x) (sum_of a b) s =
+    elim (is_same_kind a b) as (λ c. Has x (if c then Some a else None)) [ true ↦ s | false ↦ tt ]
 applied-has Merge (right x) (sum_of a b) s = has-merged x a b (is_same_kind a b) refl s
 applied-has Merge (listed xs) (sum_of a b) s = absurd s
 applied-has Merge v (list_of a) s = tt
@@ -150,7 +170,8 @@ applied-has (Mul n) v (sum_of a b) s = tt
 applied-has (Mul n) v (list_of a) s = tt
 
 -- the result of a function, if it has a kind
-has-applied : (f : Func) (v : Output) (o : Option OutputKind) → Has v o → Has (applied f v) (mapped_kind f o)
+has-applied : (f : Func) (v : Output) (o : Option OutputKind) → Has v o →
+    Has (applied f v) (mapped_kind f o)
 has-applied f v None s = tt
 has-applied f v (Some a) s = applied-has f v a s
 
@@ -161,26 +182,33 @@ leaf-has (counted Recurs n) h = tt
 leaf-has _ h = tt
 
 -- two schedules
-paired-has : (p : Pairing) (a b : History → Answer) (k l : Option OutputKind) → ((h : History) → Has (a h).output k) → ((h : History) → Has (b h).output l) →
+paired-has : (p : Pairing) (a b : History → Answer) (k l : Option OutputKind) →
+    ((h : History) → Has (a h).output k) → ((h : History) → Has (b h).output l) →
     (h : History) → Has (paired p a b h).output (joined (pairing_kind p) k l)
 paired-has both a b k l s t h = has-pair (a h).output (b h).output k l (s h) (t h)
 paired-has either a b k l s t h = has-pair (a h).output (b h).output k l (s h) (t h)
 paired-has and_then a b k l s t h = has-sequel (from_done a h) (a h) b k l (s h) t
 
 -- one schedule
-modified-has : (m : Modifier) (a : History → Answer) (o : Option OutputKind) → ((h : History) → Has (a h).output o) → (h : History) → Has (modified m a h).output (modifier_kind m o)
+modified-has : (m : Modifier) (a : History → Answer) (o : Option OutputKind) →
+    ((h : History) → Has (a h).output o) → (h : History) →
+    Has (modified m a h).output (modifier_kind m o)
 modified-has (while_input t) a o s h = s h
 modified-has (while_output k t) a o s h = has-fits k (a h).output o (s h)
 modified-has collect_all a o s h = has-list a o s (earlier h)
 modified-has (mapped f) a o s h = has-applied f (a h).output o (s h)
-modified-has (reset_when k t) a o s h = has-fits k (a (since_reset a k t h)).output o (s (since_reset a k t h))
+modified-has (reset_when k t) a o s h =
+    has-fits k (a (since_reset a k t h)).output o (s (since_reset a k t h))
 
 -- the output of every schedule has its kind, if there is one
 pub answer_of-has : (t : Schedule) (h : History) → Has (answer_of t h).output (kind_of t)
 answer_of-has (leaf l) h = leaf-has l h
-answer_of-has (two p a b) h = paired-has p (answer_of a) (answer_of b) (kind_of a) (kind_of b) (λ g. answer_of-has a g) (λ g. answer_of-has b g) h
+answer_of-has (two p a b) h =
+    paired-has p (answer_of a) (answer_of b) (kind_of a) (kind_of b) (λ g. answer_of-has a g)
+    (λ g. answer_of-has b g) h
 answer_of-has (over s m) h = modified-has m (answer_of s) (kind_of s) (λ g. answer_of-has s g) h
 
 -- every output of a schedule with a kind has that kind
-pub answer_of-has_kind : (t : Schedule) (a : OutputKind) (h : History) → kind_of t ≡ Some a → HasKind (answer_of t h).output a
+pub answer_of-has_kind : (t : Schedule) (a : OutputKind) (h : History) → kind_of t ≡ Some a →
+    HasKind (answer_of t h).output a
 answer_of-has_kind t a h e = subst (Has (answer_of t h).output) e (answer_of-has t h)

@@ -2,11 +2,15 @@
 use Rattle.std.proofs.Common.{◌≡◌, ℕ, List, [], ◌∷◌, map, refl}
 use Rattle.std.specs.Prelude.{reverse}
 use Rattle.zs_term.specs.Output.{Output, number, pair, left, right, listed, none, more}
-use Rattle.zs_term.specs.Schedule.{Schedule, leaf, two, over, forever, recurs, spaced, fixed, exponential, fibonacci, identity, elapsed, both, either, and_then, while_input, while_output, collect_all, mapped, linear, windowed, reset_when}
+use Rattle.zs_term.specs.Schedule.{Schedule, leaf, two, over, forever, recurs, spaced, fixed}
+use Rattle.zs_term.specs.Schedule.{exponential, fibonacci, identity, elapsed, both, either}
+use Rattle.zs_term.specs.Schedule.{and_then, while_input, while_output, collect_all, mapped, linear}
+use Rattle.zs_term.specs.Schedule.{windowed, reset_when}
 use Rattle.zs_term.specs.Saturating.{max_moment}
 use Rattle.zs_term.specs.declared.term.Test.{Test}
 use Rattle.zs_term.specs.declared.term.Cmp.TheVariants.{Lt, Eq, Ge}
-use Rattle.zs_term.specs.declared.term.Pick.TheVariants.{Whole, Second as SecondPart, Size as SizeOf}
+use Rattle.zs_term.specs.declared.term.Pick.TheVariants.{Whole, Second as SecondPart}
+use Rattle.zs_term.specs.declared.term.Pick.TheVariants.{Size as SizeOf}
 use Rattle.zs_term.specs.declared.term.Func.TheVariants.{Merge, Add, Mul}
 use Rattle.zs_step.specs.declared.decision.Decision.TheVariants.{Stop, Next}
 use Rattle.zs_step.specs.History.{History, history_of}
@@ -110,7 +114,8 @@ answered =
     )
     -- fixed at the edge of a period
     ∷ (leaf (fixed 100), ((50, 1) ∷ (250, 1) ∷ [], num 0 150 ∷ num 1 350 ∷ []))
-    ∷ (leaf (fixed 100), ((50, 1) ∷ (251, 1) ∷ [], num 0 150 ∷ num 1 251 ∷ []))  -- fixed just behind
+    -- fixed 1 ms after that
+    ∷ (leaf (fixed 100), ((50, 1) ∷ (251, 1) ∷ [], num 0 150 ∷ num 1 251 ∷ []))
     ∷ (leaf (spaced 10), ((4, 1) ∷ (18, 1) ∷ [], num 0 14 ∷ num 1 28 ∷ []))  -- spaced waits
     -- linear delays
     ∷ (

@@ -1,4 +1,6 @@
--- The number of nodes that the last step of a history visits.
+-- The number of nodes that the last step of a history visits: those that it steps, one that it
+-- steps twice twice. Nodes that it only reads aren't counted: to join lists, to take a piece of an
+-- output, to make the output.
 use Rattle.std.specs.Prelude.{ℕ, ◌+◌, Bool, true, false, Option, Some, None, [], ◌∷◌}
 use Rattle.zs_term.specs.Schedule.{Schedule, leaf, two, over, Pairing, both, either, and_then}
 use Rattle.zs_term.specs.Schedule.{Modifier, while_input, while_output, collect_all, mapped}

@@ -99,13 +99,13 @@ impl Compiled {
                 decision,
                 visits,
             }),
-            Err(_) => Err(self.give_up()),
+            Err(_) => Err(self.set_broken()),
         }
     }
 
-    /// Like `step`, but makes no output. Returns the decision and the number of nodes that were
-    /// stepped. Only a `collectAll` takes memory.
-    pub fn advance(&mut self, now: u64, input: u64) -> Result<(Decision, u64), StepFault>
+    // Like `step`, but makes no output. Returns the decision and the number of nodes that were
+    // stepped. Only a `collectAll` takes memory.
+    fn advance(&mut self, now: u64, input: u64) -> Result<(Decision, u64), StepFault>
         requires order { last_seen self.old ≤ now }
         ensures term { compiled_term self.new ≡ compiled_term self.old }
         ensures steps { Advances self.old self.new now input result }
@@ -114,7 +114,7 @@ impl Compiled {
             return Err(StepFault::Memory);
         }
         if join_lists(&mut self.state, self.alloc).is_err() {
-            return Err(self.give_up());
+            return Err(self.set_broken());
         }
         let step = StepInput {
             alloc: self.alloc,
@@ -139,8 +139,8 @@ impl Compiled {
         make_out(self.alloc, &self.state)
     }
 
-    // Breaks the schedule.
-    fn give_up(&mut self) -> StepFault
+    // Marks the schedule as broken: no later step succeeds.
+    fn set_broken(&mut self) -> StepFault
         ensures broken { self.new ≡ record self.old { broken = true } }
         ensures memory { result ≡ StepFault.Memory }
     {

@@ -57,7 +57,7 @@ impl Numbers {
     }
 
     // Returns what tests read of a function of the output, unless a piece of it has to be read.
-    pub(crate) fn apply(self, func: Func) -> Option<Numbers>
+    pub(crate) fn after(self, func: Func) -> Option<Numbers>
         ensures value { (o : Output) → IsNumbers self o
             → IfSome result (λ r. IsNumbers r (applied func o)) }
         ensures piece { result ≡ None → returns_piece func ≡ true }

@@ -66,7 +66,7 @@ pub(crate) fn read_numbers(state: &State) -> Numbers
         }
         State::AndThen { .. } => Numbers::Side,
         State::CollectAll { kept, .. } => Numbers::Size(kept.len()),
-        State::Map { part, func } => match read_numbers(part).apply(*func) {
+        State::Map { part, func } => match read_numbers(part).after(*func) {
             Some(numbers) => numbers,
             None => unreachable!(),
         },
@@ -81,7 +81,7 @@ pub(crate) fn read_mapped(whole: Numbers, part: &State, func: Func) -> Numbers
     ensures value { IsNumbers whole (last_output part.now)
         → IsNumbers result (applied func (last_output part.now)) }
 {
-    match whole.apply(func) {
+    match whole.after(func) {
         Some(numbers) => numbers,
         None => read_numbers(piece(part, func)),
     }
@@ -104,6 +104,7 @@ pub(crate) fn make_out(alloc: Global, state: &State) -> Result<Out, AllocError>
             }
         }
         State::CollectAll { kept, .. } => Ok(Out::Items(kept.list().copy()?)),
+        State::Leaf(leaf) => Ok(Out::Num(leaf.output())),
         node => Ok(Out::Num(read_numbers(node).pick(Pick::Whole))),
     }
 }

@@ -19,9 +19,11 @@ action_method Resetting = ResetWhen
 -- the tokens before a comparison
 abbrev pub subject_tokens : Subject → List Token
 subject_tokens Input = mark Dot ∷ mark (MethodWord WhileInput) ∷ mark Open ∷ []
-subject_tokens (Picked e p) = mark Dot ∷ mark (MethodWord (action_method e)) ∷ mark Open ∷ pick_tokens p
+subject_tokens (Picked e p) =
+    mark Dot ∷ mark (MethodWord (action_method e)) ∷ mark Open ∷ pick_tokens p
 
 -- the value that was mapped to `Some`
-pub mapped_from : {X Y : Type 0} (f : X → Y) (o : Option X) (y : Y) → option_map f o ≡ Some y → (x : X) × (o ≡ Some x) × (f x ≡ y)
+pub mapped_from : {X Y : Type 0} (f : X → Y) (o : Option X) (y : Y) → option_map f o ≡ Some y →
+    (x : X) × (o ≡ Some x) × (f x ≡ y)
 mapped_from f None y h = cc
 mapped_from f (Some x) y h = (x, refl, cc)

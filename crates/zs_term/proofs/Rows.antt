@@ -9,11 +9,15 @@ use Rattle.zs_term.specs.declared.term.Test.{Test}
 use Rattle.zs_term.specs.declared.term.Cmp.{Cmp}
 use Rattle.zs_term.specs.declared.fault.TermFault.{TermFault}
 use Rattle.zs_term.specs.declared.term.Cmp.TheVariants.{Lt, Eq, Ge}
-use Rattle.zs_term.specs.declared.fault.TermFault.TheVariants.{NoTerm, BadNumber, BadFactor, NoKind, BadWindow}
-use Rattle.zs_term.specs.Schedule.{Schedule, leaf, two, over, forever, recurs, spaced, exponential, identity, linear, windowed, both, either, while_output, mapped, reset_when, weight}
+use Rattle.zs_term.specs.declared.fault.TermFault.TheVariants.{NoTerm, BadNumber, BadFactor, NoKind}
+use Rattle.zs_term.specs.declared.fault.TermFault.TheVariants.{BadWindow}
+use Rattle.zs_term.specs.Schedule.{Schedule, leaf, two, over, forever, recurs, spaced, exponential}
+use Rattle.zs_term.specs.Schedule.{identity, linear, windowed, both, either, while_output, mapped}
+use Rattle.zs_term.specs.Schedule.{reset_when, weight}
 use Rattle.zs_term.specs.Output.{number, pair, left, listed, more, none}
 use Rattle.zs_term.specs.Token.{lex}
-use Rattle.zs_term.specs.Canonical.{canonical_text, exponential_text, while_output_text, reset_when_text}
+use Rattle.zs_term.specs.Canonical.{canonical_text, exponential_text, while_output_text}
+use Rattle.zs_term.specs.Canonical.{reset_when_text}
 use Rattle.zs_term.specs.OutputText.{output_text}
 use Rattle.zs_term.specs.Verdict.{verdict_of}
 
@@ -73,7 +77,8 @@ each_is_spelled_so : map (λ row. canonical_text row.0) spellings ≡ map (λ ro
 unfolding exponential_text while_output_text reset_when_text digits
 each_is_spelled_so = refl
 
-a_pair_of_a_side_and_a_list : output_text (pair (left (number 1)) (listed (more (number 2) (more (number 3) none)))) ≡ codes "(Left(1),[2,3])"
+a_pair_of_a_side_and_a_list : output_text (pair (left (number 1))
+    (listed (more (number 2) (more (number 3) none)))) ≡ codes "(Left(1),[2,3])"
 unfolding digits
 a_pair_of_a_side_and_a_list = refl
 
@@ -84,8 +89,10 @@ the_empty_list = refl
 abbrev again : Schedule → Schedule
 again s = over s (reset_when Whole (record { cmp = Eq; than = 0 }))
 
-eight_resets : weight (again (again (again (again (again (again (again (again (leaf forever))))))))) ≡ 511
+eight_resets : weight (again (again (again (again (again (again (again (again (leaf forever)))))))))
+    ≡ 511
 eight_resets = refl
 
-nine_resets : weight (again (again (again (again (again (again (again (again (again (leaf forever)))))))))) ≡ 1023
+nine_resets : weight
+    (again (again (again (again (again (again (again (again (again (leaf forever)))))))))) ≡ 1023
 nine_resets = refl

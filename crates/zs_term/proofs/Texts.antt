@@ -1,14 +1,27 @@
 -- The text of a list of outputs, one output after another.
-use Rattle.std.proofs.Common.{String, ◌≡◌, ◌≤◌, ℕ, zero, suc, List, [], ◌∷◌, ◌++◌, ◌<◌, ◌+◌, sym, ap, ◌∙◌, append_assoc, subst, take, drop, get_or, length, arith, length-take-le}
+use Rattle.std.proofs.Common.{String, ◌≡◌, ◌≤◌, ℕ, zero, suc, List, [], ◌∷◌, ◌++◌, ◌<◌, ◌+◌, refl, sym, ap, ◌∙◌, append_assoc, subst, take, drop, get_or, length, arith, length-take-le}
 use Rattle.std.specs.Prelude.{codes, Result, Ok, Err, OnOk, is_ok, if◌then◌else◌, string_bytes, IsUtf8, IsCharBoundary}
 use Rattle.std.proofs.lemmas.List.{take-append-drop, length-take}
 use Rattle.std.proofs.lemmas.Str.{IsUtf8-string_bytes, IsCharBoundary-from_take}
 use Rattle.std.proofs.Math.Seq.{take-length, take-append_seam}
 use Rattle.zs_term.specs.Output.{Output, Outputs, none, more, outputs_of, output_of, with_last}
-use Rattle.zs_term.specs.OutputText.{output_text, outputs_text, behind_text, comma_before, IsBeginning}
+use Rattle.zs_term.specs.OutputText.{output_text, outputs_text, behind_text, IsBeginning}
 use Rattle.zs_term.specs.declared.outputs.Out.{Out}
 use Rattle.zs_term.proofs.Completeness.{append_nil}
 use Rattle.zs_term.proofs.Values.{outputs_of-take}
+
+-- the comma before an output of a list, except before the first
+abbrev pub comma_before : ℕ → List ℕ
+comma_before zero = []
+comma_before (suc place) = codes ","
+
+pub comma_after : (place : ℕ) → 0 < place → comma_before place ≡ codes ","
+comma_after zero later = absurd (omega (arith, later))
+comma_after (suc place) later = refl
+
+pub no_comma : (place : ℕ) → place ≤ 0 → comma_before place ≡ []
+no_comma zero first = refl
+no_comma (suc place) first = absurd (omega (arith, first))
 
 -- one more output after the first
 behind_last : (xs : Outputs) (y : Output) → behind_text (with_last xs y) ≡ behind_text xs ++ (codes "," ++ output_text y)
@@ -46,9 +59,13 @@ text_enclosed (Err u) start one two three inner e f g = tt
 pub begins_with_itself : (xs : List ℕ) → IsBeginning xs xs
 begins_with_itself xs = take-length xs
 
+-- a text begins with what it was before more was appended
+pub begins_with_more : (old new added : List ℕ) → new ≡ old ++ added → IsBeginning old new
+begins_with_more old new added is = subst (IsBeginning old) (sym is) (take-append_seam old added)
+
 -- a text begins with what it was before a call that may have appended to it
 pub begins_pushed : {T E : Type 0} (pushed : Result T E) (old new added : List ℕ) → new ≡ (if is_ok pushed then old ++ added else old) → IsBeginning old new
-begins_pushed (Ok u) old new added is = subst (IsBeginning old) (sym is) (take-append_seam old added)
+begins_pushed (Ok u) old new added is = begins_with_more old new added is
 begins_pushed (Err u) old new added is = subst (IsBeginning old) (sym is) (begins_with_itself old)
 
 -- the beginning of a beginning

@@ -1,5 +1,5 @@
 -- The text of outputs: numbers in decimal, pairs and lists with commas, and no spaces.
-use Rattle.std.specs.Prelude.{◌≡◌, ℕ, zero, suc, List, ◌++◌, [], codes, length, take, string_bytes}
+use Rattle.std.specs.Prelude.{◌≡◌, ℕ, List, ◌++◌, [], codes, length, take, string_bytes}
 use Rattle.std.specs.Prelude.{String}
 use Rattle.std.specs.Global.{Global}
 use Rattle.std.specs.Fmt.{decimal}
@@ -24,11 +24,6 @@ abbrev mutual
   pub behind_text : Outputs → List ℕ
   behind_text none = []
   behind_text (more x xs) = codes "," ++ (output_text x ++ behind_text xs)
-
--- the comma before an output of a list, except before the first: for a private contract
-abbrev pub comma_before : ℕ → List ℕ
-comma_before zero = []
-comma_before (suc place) = codes ","
 
 -- the second text begins with the first
 abbrev pub IsBeginning : List ℕ → List ℕ → Type 0

@@ -28,7 +28,7 @@ subject_text (Picked Stopping p) = while_output_text
 subject_text (Picked Resetting p) = reset_when_text
 
 -- the most steps that it takes to free a term: each left part is rotated to the right first
-abbrev pub steps_to_give_up : Schedule → ℕ
-steps_to_give_up (leaf l) = 1
-steps_to_give_up (two p a b) = 2 * steps_to_give_up a + steps_to_give_up b
-steps_to_give_up (over s m) = 1 + steps_to_give_up s
+abbrev pub steps_to_free : Schedule → ℕ
+steps_to_free (leaf l) = 1
+steps_to_free (two p a b) = 2 * steps_to_free a + steps_to_free b
+steps_to_free (over s m) = 1 + steps_to_free s

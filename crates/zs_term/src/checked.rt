@@ -6,7 +6,7 @@ ghost use Rattle.zs_term.specs.OutputKind.{output_kind_of};
 ghost use Rattle.zs_term.specs.Kinds.{kind_of, takes_memory, IsSchedule};
 ghost use Rattle.zs_term.specs.Causes.{IsTermCause};
 ghost use Rattle.zs_term.specs.Verdict.{checked_as, IsVerdict};
-ghost use Rattle.zs_term.specs.Shape.{steps_to_give_up};
+ghost use Rattle.zs_term.specs.Shape.{steps_to_free};
 
 use crate::fault::TermFault;
 use crate::inference::{has_kind, make_kind};
@@ -86,7 +86,7 @@ pub fn check(alloc: Global, term: Term) -> Result<Checked, TermFault>
     ensures memory { result ≡ Err TermFault.Memory → takes_memory (schedule_of term) ≡ true }
 {
     if !is_within_limits(&term) {
-        give_up(term);
+        free(term);
         return Err(TermFault::TooBig);
     }
     check_small(alloc, term)
@@ -121,11 +121,11 @@ pub(crate) fn check_small(alloc: Global, term: Term) -> Result<Checked, TermFaul
 }
 
 // Frees a term node by node. To drop it would take stack in proportion to its depth.
-fn give_up(term: Term) {
+fn free(term: Term) {
     let mut rest = term;
     loop {
         rest = match rest {
-            Term::Both(a, b) | Term::Either(a, b) | Term::AndThen(a, b) => turn_over(a, b),
+            Term::Both(a, b) | Term::Either(a, b) | Term::AndThen(a, b) => rotate(a, b),
             Term::WhileInput(s, _)
             | Term::WhileOutput(s, _, _)
             | Term::CollectAll(s)
@@ -148,9 +148,9 @@ fn give_up(term: Term) {
 // Joins two parts with one node less, or rotates to the right: `((a op b) op c)` becomes
 // `(a op (b op c))`.
 #[tactic(auto, using(crate::proofs::Sizes::steps_positive))]
-fn turn_over(left: Box<Term>, right: Box<Term>) -> Term
-    ensures less { steps_to_give_up (schedule_of result)
-        < steps_to_give_up (two both (schedule_of left.value) (schedule_of right.value)) }
+fn rotate(left: Box<Term>, right: Box<Term>) -> Term
+    ensures less { steps_to_free (schedule_of result)
+        < steps_to_free (two both (schedule_of left.value) (schedule_of right.value)) }
 {
     let mut left = left;
     match replace(&mut *left, Term::Forever) {

@@ -57,26 +57,27 @@ impl Parser {
 
     /// Drops all terms if the next node is past a limit, whatever follows. The parser then goes on
     /// with sizes alone.
-    pub(crate) fn watch(&mut self, stage: Stage) -> Stage
-        ensures value { Watches self.old.build self.new.build (state_in self.old stage)
-            (state_in self.new result) }
+    pub(crate) fn watch(&mut self, stage: &mut Stage)
+        ensures value { Watches self.old.build self.new.build (state_in self.old stage.old)
+            (state_in self.new stage.new) }
     {
         match stage {
             Stage::Start => {
                 self.drop_past(1, 1);
-                Stage::Start
             }
             Stage::Dotted(part) => {
                 let weight = part.weight.saturating_add(1);
-                let past = self.drop_past(part.depth.saturating_add(1), weight);
-                Stage::Dotted(part.unless(past))
+                if self.drop_past(part.depth.saturating_add(1), weight) {
+                    part.term = None;
+                }
             }
-            Stage::Comparing(part, subject, cmp) => {
+            Stage::Comparing(part, subject, _) => {
                 let weight = subject.weight_over(part.weight);
-                let past = self.drop_past(part.depth.saturating_add(1), weight);
-                Stage::Comparing(part.unless(past), subject, cmp)
+                if self.drop_past(part.depth.saturating_add(1), weight) {
+                    part.term = None;
+                }
             }
-            stage => stage,
+            _ => {}
         }
     }
 }

@@ -39,7 +39,7 @@ pub enum Counted {
 
 /// An operator between two terms.
 #[derive(Clone, Copy, Drop)]
-pub enum Infix {
+pub(crate) enum Infix {
     /// `&&`
     Both,
     /// `||`
@@ -50,7 +50,7 @@ pub enum Infix {
 
 /// What follows a term and a dot, and takes arguments.
 #[derive(Clone, Copy, Drop)]
-pub enum Method {
+pub(crate) enum Method {
     /// `.whileInput`
     WhileInput,
     /// `.whileOutput`
@@ -63,7 +63,7 @@ pub enum Method {
 
 /// What a test of a part of the output does.
 #[derive(Clone, Copy, Drop)]
-pub enum Action {
+pub(crate) enum Action {
     /// `.whileOutput`: the schedule stops if the test is false.
     Stopping,
     /// `.resetWhen`: the part starts over if the test is true.
@@ -72,7 +72,7 @@ pub enum Action {
 
 /// What a comparison reads.
 #[derive(Clone, Copy, Drop)]
-pub enum Subject {
+pub(crate) enum Subject {
     /// The input.
     Input,
     /// A part of the output.
@@ -92,7 +92,7 @@ pub(crate) enum Piece {
 
 /// A function with a number.
 #[derive(Clone, Copy, Drop)]
-pub enum Scale {
+pub(crate) enum Scale {
     /// `as`
     Constant,
     /// `+`
@@ -104,7 +104,7 @@ pub enum Scale {
 /// What a term consists of. `Term::shape` matches every variant of `Term`; so do only the two
 /// functions of `checked.rt` that free a term.
 #[derive(Clone, Copy, Drop)]
-pub enum Shape<'t> {
+pub(crate) enum Shape<'t> {
     /// A leaf without numbers.
     Plain(Plain),
     /// A leaf with one number.
@@ -156,7 +156,7 @@ impl Term {
 
 impl Plain {
     /// Returns the word.
-    pub fn word(self) -> &'static str
+    pub(crate) fn word(self) -> &'static str
         ensures value { result.now ≡ plain_word self }
     {
         match self {
@@ -167,7 +167,7 @@ impl Plain {
     }
 
     /// Returns the term.
-    pub fn of(self) -> Term
+    pub(crate) fn of(self) -> Term
         ensures value { schedule_of result ≡ leaf (plain self) }
     {
         match self {
@@ -180,7 +180,7 @@ impl Plain {
 
 impl Counted {
     /// Returns the word.
-    pub fn word(self) -> &'static str
+    pub(crate) fn word(self) -> &'static str
         ensures value { result.now ≡ counted_word self }
     {
         match self {
@@ -194,7 +194,7 @@ impl Counted {
     }
 
     /// Returns the term with a number.
-    pub fn of(self, n: u64) -> Term
+    pub(crate) fn of(self, n: u64) -> Term
         ensures value { schedule_of result ≡ leaf (counted self n) }
     {
         match self {
@@ -210,7 +210,7 @@ impl Counted {
 
 impl Infix {
     /// Returns the term over two parts.
-    pub fn of(self, left: Box<Term>, right: Box<Term>) -> Term
+    pub(crate) fn of(self, left: Box<Term>, right: Box<Term>) -> Term
         ensures value { schedule_of result
             ≡ two (infix_pairing self) (schedule_of left.value) (schedule_of right.value) }
     {
@@ -224,7 +224,7 @@ impl Infix {
 
 impl Subject {
     /// Returns the term with this test over a part.
-    pub fn of(self, term: Box<Term>, test: Test) -> Term
+    pub(crate) fn of(self, term: Box<Term>, test: Test) -> Term
         ensures value { schedule_of result
             ≡ over (schedule_of term.value) (test_modifier self test) }
     {
@@ -250,7 +250,7 @@ impl Subject {
 
 impl Piece {
     /// Returns the piece as what a test reads.
-    pub fn pick(self) -> Pick
+    pub(crate) fn pick(self) -> Pick
         ensures value { result ≡ piece_pick self }
     {
         match self {
@@ -261,7 +261,7 @@ impl Piece {
     }
 
     /// Returns the piece as a function.
-    pub fn func(self) -> Func
+    pub(crate) fn func(self) -> Func
         ensures value { result ≡ piece_func self }
     {
         match self {
@@ -274,7 +274,7 @@ impl Piece {
 
 impl Scale {
     /// Returns the function with this number.
-    pub fn by(self, n: u64) -> Func
+    pub(crate) fn by(self, n: u64) -> Func
         ensures value { result ≡ scale_by self n }
     {
         match self {

@@ -3,11 +3,11 @@
 ghost use Rattle.std.specs.Prelude.{◌≡◌, IfOk, OnOk, OnErr, string_bytes};
 ghost use Rattle.std.specs.Fmt.{decimal};
 ghost use Rattle.zs_term.specs.Output.{output_of, outputs_of, outs_list, listed};
-ghost use Rattle.zs_term.specs.OutputText.{output_text, outputs_text, comma_before, Adds, Extends};
+ghost use Rattle.zs_term.specs.OutputText.{output_text, outputs_text, Adds, Extends};
 
 use crate::outputs::{Out, Outs, Storage};
-use itoa::Buffer;
 use std::alloc::{AllocError, Global};
+use std::str;
 
 /// A memory allocation failed.
 pub type NoMemory = AllocError;
@@ -72,8 +72,18 @@ pub fn append_number(text: &mut String, n: u64) -> Result<(), NoMemory>
     ensures ok { OnOk result (Adds text.old text.new (decimal n)) }
     ensures kept { Extends text.old text.new }
 {
-    let mut buffer = Buffer::new();
-    text.push_str(buffer.format(n))
+    // The digits of 2^64 - 1 fill it.
+    let mut room = [0; 20];
+    let mut at = 19;
+    let mut left = n;
+    while left >= 10 {
+        room[at] = b'0' + (left % 10) as u8;
+        left /= 10;
+        at -= 1;
+    }
+    room[at] = b'0' + left as u8;
+    // Digits are ASCII, which the proof shows.
+    text.push_str(unsafe { str::from_utf8_unchecked(&room[at..]) })
 }
 
 // Appends the text of a list of outputs. If that fails, the text may end with a part of it.
@@ -110,21 +120,10 @@ fn append_items(text: &mut String, items: &[Out]) -> Result<(), NoMemory>
     ensures kept { Extends text.old text.new }
 {
     for (i, item) in items.iter().enumerate() {
-        append_comma(text, i)?;
+        if 0 < i {
+            text.push_str(",")?;
+        }
         push_out(text, item)?;
     }
     Ok(())
-}
-
-// Appends the comma before an output of a list, except before the first.
-#[tactic(auto, using(crate::proofs::Texts::begins_with_itself, crate::proofs::Texts::begins_pushed, crate::proofs::Texts::begins_both))]
-fn append_comma(text: &mut String, place: usize) -> Result<(), NoMemory>
-    ensures ok { OnOk result (Adds text.old text.new (comma_before place)) }
-    ensures kept { Extends text.old text.new }
-{
-    if 0 < place {
-        text.push_str(",")
-    } else {
-        Ok(())
-    }
 }

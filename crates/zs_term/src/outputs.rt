@@ -179,7 +179,7 @@ impl Outs {
 fn copy_all(alloc: Global, outs: &[Out]) -> Result<Vec<Out>, AllocError>
     ensures ok { IfOk result (λ r. outputs_of r.items ≡ outputs_of outs.now) }
 {
-    let mut copies = Vec::new(alloc);
+    let mut copies = Vec::with_capacity(alloc, outs.len())?;
     for out in outs {
         copies.push(out.copy(alloc)?)?;
     }

@@ -29,7 +29,7 @@ pub(crate) struct Parser {
 
 /// `(S op`: an infix form with its left part.
 #[derive(Drop)]
-pub struct Joined {
+pub(crate) struct Joined {
     /// The number of `(` without an operator right before it.
     pub before: u64,
     /// The operator.
@@ -40,7 +40,7 @@ pub struct Joined {
 
 /// What was read since the innermost frame, which determines what may come next.
 #[derive(Drop)]
-pub enum Stage {
+pub(crate) enum Stage {
     /// Nothing: a term begins here.
     Start,
     /// `word`, before its `(`.
@@ -315,7 +315,7 @@ impl Parser {
 
     /// Returns the whole term that was read, if no form is open.
     #[tactic(auto, using(crate::proofs::Stacks::stack_empty))]
-    pub fn finish(&self, stage: Stage) -> Option<Part>
+    pub(crate) fn finish(&self, stage: Stage) -> Option<Part>
         ensures value { Finishes (state_in self.now stage) result }
     {
         if 0 < self.bare || !self.joined.is_empty() {

@@ -1,8 +1,8 @@
 //! Whole terms that the parser has composed.
 
-ghost use Rattle.std.specs.Prelude.{◌≡◌, IfOk, option_map, true, false};
+ghost use Rattle.std.specs.Prelude.{◌≡◌, IfOk, option_map};
 ghost use Rattle.zs_term.specs.Schedule.{schedule_of};
-ghost use Rattle.zs_term.specs.Parts.{kept_of, keep, keep_join, keep_test, keep_collect, keep_apply, keep_scale, keep_above, sizes_of};
+ghost use Rattle.zs_term.specs.Parts.{kept_of, keep, keep_join, keep_test, keep_collect, keep_apply, keep_scale, keep_above};
 
 use crate::forms::{Counted, Infix, Plain, Scale, Subject};
 use crate::term::{Cmp, Func, Term, Test};
@@ -11,7 +11,7 @@ use std::alloc::{AllocError, Global};
 /// A whole term that was read: its sizes, and the term itself if terms are built and its numbers
 /// fit.
 #[derive(Drop)]
-pub struct Part {
+pub(crate) struct Part {
     /// The depth; saturates at 2^64 - 1.
     pub depth: u64,
     /// The weight; saturates at 2^64 - 1.
@@ -21,18 +21,6 @@ pub struct Part {
 }
 
 impl Part {
-    /// Drops the term if the schedule is past a limit.
-    pub(crate) fn unless(self, past: bool) -> Part
-        ensures past { past ≡ true → kept_of result ≡ sizes_of (kept_of self) }
-        ensures same { past ≡ false → kept_of result ≡ kept_of self }
-    {
-        Part {
-            depth: self.depth,
-            weight: self.weight,
-            term: if past { None } else { self.term },
-        }
-    }
-
     /// Makes a leaf without numbers.
     pub(crate) fn plain_leaf(alloc: Global, build: bool, form: Plain) -> Result<Part, AllocError>
         ensures value { IfOk result (λ part. kept_of part ≡ (keep build).plain form) }
@@ -58,7 +46,7 @@ impl Part {
     }
 
     /// Makes an `exponential` with its base and factor.
-    pub fn exponential(
+    pub(crate) fn exponential(
         alloc: Global,
         build: bool,
         base: Option<u64>,
@@ -91,7 +79,12 @@ impl Part {
     }
 
     /// Joins two parts by an operator.
-    pub fn join(alloc: Global, form: Infix, left: Part, right: Part) -> Result<Part, AllocError>
+    pub(crate) fn join(
+        alloc: Global,
+        form: Infix,
+        left: Part,
+        right: Part,
+    ) -> Result<Part, AllocError>
         ensures value { IfOk result (λ part.
             kept_of part ≡ keep_join form (kept_of left) (kept_of right)) }
     {
@@ -105,7 +98,7 @@ impl Part {
     }
 
     /// Puts a test over a part.
-    pub fn test(
+    pub(crate) fn test(
         alloc: Global,
         part: Part,
         subject: Subject,
@@ -123,7 +116,7 @@ impl Part {
     }
 
     /// Puts `collectAll` over a part.
-    pub fn collect(alloc: Global, part: Part) -> Result<Part, AllocError>
+    pub(crate) fn collect(alloc: Global, part: Part) -> Result<Part, AllocError>
         ensures value { IfOk result (λ whole. kept_of whole ≡ keep_collect (kept_of part)) }
     {
         let term = part.term.map(|a| Term::CollectAll(a));
@@ -131,7 +124,7 @@ impl Part {
     }
 
     /// Puts a function without a number over a part.
-    pub fn apply(alloc: Global, part: Part, func: Func) -> Result<Part, AllocError>
+    pub(crate) fn apply(alloc: Global, part: Part, func: Func) -> Result<Part, AllocError>
         ensures value { IfOk result (λ whole. kept_of whole ≡ keep_apply (kept_of part) func) }
     {
         let term = part.term.map(|a| Term::Map(a, func));

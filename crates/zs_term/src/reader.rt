@@ -59,7 +59,8 @@ fn whole(alloc: Global, text: &[u8]) -> Result<(Part, Option<u64>), TermFault>
                 Err(_) => return Err(TermFault::Memory),
                 Ok(None) => return Err(TermFault::NoTerm { at: place as u64 }),
                 Ok(Some(next)) => {
-                    stage = parser.watch(next);
+                    stage = next;
+                    parser.watch(&mut stage);
                     huge = huge_after(huge, place, lexeme);
                     from = end;
                 }

@@ -77,8 +77,9 @@ pub enum Func {
     Mul(u64),
 }
 
-/// A schedule as it is written. Dropping a term takes stack in proportion to its depth; `check`
-/// frees a term in constant stack.
+/// A schedule as it is written; docs/SEMANTICS.md says what each form does, and as which operator
+/// of ZIO. Dropping a term takes stack in proportion to its depth; `check` frees a term in constant
+/// stack.
 #[derive(Drop)]
 pub enum Term {
     /// Always continues at once: `forever`.

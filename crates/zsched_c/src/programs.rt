@@ -1,11 +1,11 @@
 //! The calls over programs.
 
-ghost use Rattle.std.specs.Prelude.{◌≡◌, ◌<◌, ◌≤◌, ℕ, true, length, slice_index_or};
+ghost use Rattle.std.specs.Prelude.{◌≡◌, ◌<◌, ◌≤◌, ℕ, true, length};
 ghost use Rattle.zs_term.specs.Schedule.{Schedule};
 ghost use Rattle.zs_step.specs.History.{History};
 ghost use Rattle.zs_c.specs.Plan.{PlansFairly, IsPlannable, IsTurnDenied, IsTurnPlanned, moment_of};
 ghost use Rattle.zs_c.specs.Planned.{KeepsBounds};
-ghost use Rattle.zs_c.specs.Program.{IsChecked, IsProgram, KeepsProgramState};
+ghost use Rattle.zs_c.specs.Program.{IsChecked, IsProgram, IsStateOf, KeepsProgramState, planned_in};
 ghost use Rattle.zs_c.specs.Programs.{IsProgramSized, IsCompiled, IsCompileRefusal, IsUnfit, IsStepDenied, IsOutputDenied, IsDeniedFor, IsProgramBegun, IsProgramStepped, IsOutputTold, IsStepSafe};
 ghost use Rattle.zs_c.specs.Refusals.{IsSizeRefusal};
 ghost use Rattle.zs_c.specs.Shown.{shows_no_list};
@@ -78,8 +78,9 @@ pub extern "C" fn zs_program_step(
     ensures stepped { result ≤ 1 → (t : Schedule) → IsProgram program.now t
         → IsProgramStepped t state.old state.new (moment, input) result next.new visits.new }
     ensures checked { result ≤ 1 → IsChecked program.now }
+    ensures stated { result ≤ 1 → IsStateOf program.now state.old }
     ensures safe { result ≤ 1 → IsStepSafe program.now state.old state.new moment }
-    ensures planned { slice_index_or state.new 2 0 ≡ slice_index_or state.old 2 0 }
+    ensures planned { planned_in state.new ≡ planned_in state.old }
     ensures refused { 1 < result → IsDeniedFor (IsStepDenied program.now state.old moment) result }
     ensures nothing { 1 < result → (next.new ≡ 0) × (visits.new ≡ 0) }
     ensures stays { 1 < result → state.new ≡ state.old }
@@ -96,6 +97,7 @@ pub extern "C" fn zs_output(program: &[u64], state: &[u64], out: &mut [u8], size
     ensures told { result ≡ 0 → (t : Schedule) → IsProgram program.now t → shows_no_list t ≡ true
         → IsOutputTold t state.now out.old out.new size.new }
     ensures checked { result ≡ 0 → IsChecked program.now }
+    ensures stated { result ≡ 0 → IsStateOf program.now state.now }
     ensures refused { 0 < result → IsDeniedFor (IsOutputDenied program.now state.now) result }
     ensures nothing { 0 < result → size.new ≡ 0 }
     ensures kept { 0 < result → out.new ≡ out.old }
@@ -119,8 +121,9 @@ pub extern "C" fn zs_plan(program: &[u64], state: &mut [u64], turn: &Turn, begin
     ensures succeeds { (t : Schedule) (h : History) (planned : ℕ) → IsProgram program.now t
         → KeepsProgramState t h planned state.old → IsPlannable h planned turn.now → result ≤ 1 }
     ensures checked { result ≤ 1 → IsChecked program.now }
+    ensures stated { result ≤ 1 → IsStateOf program.now state.old }
     ensures safe { result ≤ 1 → IsStepSafe program.now state.old state.new
-        (moment_of (slice_index_or state.old 2 0) turn.now) }
+        (moment_of (planned_in state.old) turn.now) }
     ensures refused { 1 < result → IsDeniedFor (IsTurnDenied program.now state.old turn.now) result }
     ensures nothing { 0 < result → begin.new ≡ 0 }
     ensures stays { 1 < result → state.new ≡ state.old }

@@ -9,6 +9,8 @@ from zsched_tools.words import WIDTH, shown
 
 ABOUT = """Runs zsched on a plan, and shows where the plan's fault is.
 
+  zsched-explain plan.json
+
 The first line on standard error is zsched's. If the plan is rejected, these follow:
   - the place as FILE:LINE:COLUMN, counted from 1; a column is a character
   - the line, cut if it is long
@@ -54,9 +56,9 @@ def _explain(taken):
     refused = all_faults.all_faults(lambda text: outcome(zsched, plan_size.with_one_tick(text)), data, most + 1)
     for count, (line, found) in enumerate(refused, 1):
         if count <= most:
-            sys.stderr.write(f"{paint('bad', line.strip())}\n{place.fault_lines(name, found, paint)}")
+            print(paint("bad", line.strip()), *place.fault_lines(name, found, paint), sep="\n", file=sys.stderr)
     shown_faults = f"{min(count, most)} fault{'s' * (count > 1)}"
-    sys.stderr.write(f"{shown_faults}; there are more: --most N shows N\n" if count > most else f"{shown_faults}\n")
+    print(shown_faults + "; there are more: --most N shows N" * (count > most), file=sys.stderr)
     return command.REFUSED
 
 
@@ -65,8 +67,8 @@ def repeated_key(data):
     found = []
 
     def read(pairs):
-        keys = [key for key, _ in pairs]
-        found.extend(key for number, key in enumerate(keys) if len(set(keys)) < len(keys) and key in keys[:number])
+        seen = set()
+        found.extend(key for key, _ in pairs if not found and (key in seen or seen.add(key)))
     with contextlib.suppress(ValueError, RecursionError):
         json.loads(data, object_pairs_hook=read)
     return f'an object has the key "{shown(found[0])}" twice, and the last one counts' if found else None
@@ -82,8 +84,8 @@ def tell(name, data, status, line, paint=place.unpainted):
     """Writes the explanation of the program's status and line on a plan's bytes. Returns the status."""
     if status == command.REFUSED:
         found = faults.explained(faults.Plan(data), line.strip().removeprefix("zsched: "))
-        said = f"{paint('bad', line.rstrip())}\n" if line.strip() else line
-        sys.stderr.write(said + place.fault_lines(name, found, paint))
+        said = [paint("bad", line.rstrip())] if line.strip() else []
+        print(*said, *place.fault_lines(name, found, paint), sep="\n", file=sys.stderr)
     elif status:
         raise ChildProcessError(program.failure(status, line.encode()))
     else:

@@ -7,15 +7,16 @@ from zsched_tools import command, plan_size, program, words
 from zsched_tools.command import REFUSED, Paint, Refused
 from zsched_tools.drawn import HIGH, LOW
 from zsched_tools.durations import duration_argument
-from zsched_tools.outage.certificate import Uncertified, certified
+from zsched_tools.outage.certificate import Uncertified, certified, simulated
 from zsched_tools.outage.curve import Figures, headline, policy_lines, table, to_json
 from zsched_tools.outage.panels import curve_page, draw_curves
 from zsched_tools.outage.scenario import DOWN, in_text, read_scenario
-from zsched_tools.outage.search import FIRST_LOOK, Search, Unsettled, name_of, schedules_of
-from zsched_tools.place import FaultAt, in_file, tell
+from zsched_tools.outage.search import FIRST_LOOK, Schedules, Search, Unsettled, name_of
+from zsched_tools.place import Cause, FaultAt, in_file, tell
 from zsched_tools.program import MOST_JOBS, cut_plans
 from zsched_tools.progress import Now
 from zsched_tools.reports import joined
+from zsched_tools.settings import add_allowed, not_covered
 from zsched_tools.words import duration, plural
 
 TOOL = "zsched-outage"
@@ -53,7 +54,13 @@ windows    in order, without overlap. "is" is "down", "slow" or "up" (default). 
            service serves of those that begin in one second of the window, or in each time "per", as "100ms"; for the
            others it is full. Without "to" a window has no end. At all other times the service is up.
 outcomes   how an attempt ends if the service is "up", "down", "slow" or "full" when it begins, as an entry of a plan's
-           script. Defaults: 40 ms ok 200, 50 ms err 503, 2000 ms ok 200; full as down.
+           script. Defaults: 40 ms ok 200, 50 ms err 503, 2000 ms ok 200; full as down. What is drawn depends on the
+           seed, the client and the number of the attempt alone.
+           {"ms": {"p50": 80, "p99": 600}, "ok": 200, "fail": "10%"}: a log-normal duration with these percentiles, and
+           a tenth of the attempts ends as if the service were down.
+           [{"share": "5%", "ms": 20, "err": 429, "retry_after": "2s"}, {"ms": 50, "err": 503}]: outcomes with shares,
+           of which one may be left out. A client waits for "retry_after" if its policy has the setting `asked 10s`, and
+           that isn't less.
 budget     a limit of retries that all clients of a policy share; a bucket of tokens is full at the start.
            {"like": "grpc", "tokens": 100, "ok": 0.1}: a failure takes a token, and a success returns "ok" tokens. A
            client retries only if more than half of the tokens remain.
@@ -67,7 +74,11 @@ budget     a limit of retries that all clients of a policy share; a bucket of to
 policies   schedules by name, or other texts that zsched-try takes, as "(exponential(100) && recurs(9)) jitter full" and
            "@service.yaml#checkout". rand(LO, HI) is a number drawn once for each client. jitter(BASE, CAP, N) is a
            schedule of N delays, the k-th drawn from 0 to the smaller of CAP and BASE * 2^(k - 1). The same seed gives
-           the same bytes. If a config limits its attempts, a longer one fails then, as if the service were down.
+           the same bytes. After a schedule or @FILE#NAME come settings, as in "spaced(100) call 3s attempt 1s on 5xx".
+           With `mode repeat` a client, as a poller, goes on after each success, and gives up at the first failure.
+           An attempt that is longer than its limit fails then, as if the service were down. At the limit of its call a
+           client gives up. An error that isn't retried ends a call. What isn't applied of a policy is named, and
+           --max-.. pass over it only with --allow-left-out NAME.
 
 How a run is simulated: the proved program first runs all clients as if the service served no attempt. The moment at
 which an attempt begins sets its outcome. The program runs the clients again until no outcome changes. Only the program
@@ -80,13 +91,14 @@ certified. The table has the share of the clients that is certified, and below i
 
 A peak is the most attempts that begin within 100 ms, within a second from any moment, and within a second of the clock.
 Times to success are of all clients: one that is never served counts as endless, and a time that isn't known is a dash.
-Recovery is the time from the end of the last window that is down to the last success of a client whose first attempt
-failed; if one of these is never served, the table has their number. Few attempts and low peaks are also those of
-clients that give up, so the first row says how many were served."""
+Times to the end and waits in all are of the calls that ended, and of those that were served; an unfinished call counts
+as endless. Recovery is the time from the end of the last window that is down to the last success of a client whose
+first attempt failed; if one of these is never served, the table has their number. Few attempts and low peaks are also
+those of clients that give up, so the first row says how many were served."""
 FILES = """With -o FOLDER, for each policy: NAME.json (the plan), NAME.report (its certified report) and NAME.csv
 (second, begun, ok, err, running: attempts that began and ended in each second, and those that run when it ends). A plan
 of more than 10,000 jobs or 16,777,216 bytes is written as JSON lines for zsched-population, NAME.jsonl. Standard error
-says so before the plan runs."""
+says so before the plan runs. A job goes on after the limit of its call: it is certified up to that."""
 EPILOG = FILES + """
 
 Exit status: 0; 1 if a policy exceeds a limit --max-.., if a scenario doesn't settle (with the open clients), or if a
@@ -99,34 +111,51 @@ def _check_policies(scenario, zsched):
     for policy, node in scenario.policies.values():
         policy.zsched = zsched
         try:
+            if policy.mode == "repeat" and (policy.on or scenario.budget):
+                what = "the errors that are retried are" if policy.on else "a budget of retries is"
+                raise FaultAt(Cause(0, len(policy.text), f"{what} of the mode retry"))
             policy.schedule(HIGH)
-            policy.show(TOOL, True)
+            policy.show(TOOL, "outage")
             policy.check(zsched)
         except FaultAt as fault:
             raise FaultAt(in_text(node, fault.cause)) from None
 
 
-def simulate(scenario, zsched, name, most_passes, say):
-    """The run of one policy: its jobs, plans, reports and figures. `say` is called at each step with the share that is
-    done and a line. It raises Unsettled or Uncertified."""
-    scenario = scenario.limited(scenario.policies[name][0].timeout)
-    schedules, firsts = (schedules_of(scenario, name, most) for most in [None, FIRST_LOOK])
+def simulate(scenario, zsched, name, most_passes, say, is_kept=True):
+    """The run of one policy: its jobs, plans and reports, none if they aren't kept, and its figures. `say` is called at
+    each step with the share that is done and a line. It raises Unsettled or Uncertified."""
+    asked = max(it.asks for it in scenario.each())
+    scenario = scenario.limited(scenario.policies[name][0])
+    policy, codes = scenario.policies[name][0], scenario.errors()
+    if policy.mode != "repeat" and not any(map(policy.retries, codes)):
+        command.note(f"policy {name}: it retries no error of this service, {', '.join(map(str, sorted(codes)))}", TOOL)
+    if policy.mode != "repeat" and asked > (policy.asked or 0):
+        command.note(f"policy {name}: it makes no wait of {duration(asked)} that the service asks for, since its limit "
+                     f"`asked` {'is ' + duration(policy.asked) if policy.asked else 'has no time'}", TOOL)
+    schedules, firsts = (Schedules(scenario, name, most) for most in [None, FIRST_LOOK])
     warn_of_lines(name, schedules)
+    jobs, reports, clients, others = [], [], [], []
     try:
         search = Search(scenario, zsched, schedules, most_passes, firsts)
         walk = search.settle(say)
-        jobs = list(search.final_jobs(walk))
-        # The clients that have no job.
-        others = {number: search.runs[number] for number, job in enumerate(jobs) if job is None}
-        jobs = list(filter(None, jobs))
-        plans, _ = cut_plans(scenario.horizon, jobs)
-        say(1, "the certificate")
-        reports = [program.run_plan(zsched, plan) for plan in plans]
-        clients = certified(scenario, walk.endings, reports, others)
+
+        def read(numbers, of_part, made):
+            has_job = [number for number, it in zip(numbers, of_part) if it]
+            found = dict(zip(has_job, certified(scenario, search.runs, walk, has_job, made)))
+            of_clients = [found.get(number) or simulated(scenario, number, search.runs[number], walk.found[number],
+                                                         walk.endings[number]) for number in numbers]
+            return (of_clients, [number for number in numbers if number not in found],
+                    *(([*filter(None, of_part)], made) if is_kept else ([], [])))
+        for part in search.final(walk, read):
+            for whole, of_part in zip([clients, others, jobs, reports], part):
+                whole += of_part
+            say(len(clients) / len(schedules), "the certificate")
     except (Unsettled, Uncertified) as failed:
         raise type(failed)(f"policy {name}: {failed}") from None
-    text = scenario.policies[name][0].source
-    return jobs, plans, reports, Figures(scenario, text, clients, list(map(name_of, others)), search.passes + 1)
+    passes, plans = search.passes + 1, cut_plans(scenario.horizon, jobs)[0] if is_kept else []
+    del search, walk
+    text = policy.source + policy.typed()
+    return jobs, plans, reports, Figures(scenario, text, clients, list(map(name_of, others)), passes)
 
 
 def write_files(folder, name, horizon, found):
@@ -144,16 +173,18 @@ def warn_of_attempts(scenario, name, color):
     policy, starts = scenario.policies[name][0], scenario.starts
     end = max((it.end for it in scenario.windows if it.state or it.capacity is not None), default=0)
     time = max(0, min(scenario.horizon, end) - min(starts))
-    plan = program.one_job(time, policy.schedule(LOW), scenario.outcomes[DOWN].entry())
+    failed = scenario.limited(policy).outcomes[DOWN].choices[0].outcome
+    plan = program.one_job(min(time, policy.deadline or time), policy.schedule(LOW), failed.entry())
     many = plan_size.warning(plan, times=len(starts))
     plan_size.warn(TOOL, many and f"policy {name}: {many}", color)
 
 
 def warn_of_lines(name, schedules):
     """Warns, before a policy runs, if its jobs exceed one plan; it checks only the schedules of the clients."""
-    count, size = len(schedules), sum(map(len, schedules))
+    count, size = len(schedules), schedules.size()
     if count > MOST_JOBS or size > program.MAX_BYTES:
-        command.note(f"policy {name}: {count:,} jobs with schedules of {size:,} bytes are more than one plan of "
+        about = "" if schedules.only else "about "
+        command.note(f"policy {name}: {count:,} jobs with schedules of {about}{size:,} bytes are more than one plan of "
                      f"{MOST_JOBS:,} jobs and {program.MAX_BYTES:,} bytes: -o writes it as JSON lines", TOOL)
 
 
@@ -166,7 +197,7 @@ def _all(given, scenario, zsched):
                 done = 100 * (len(figures) + 0.9 * share) / len(scenario.policies)
                 progress.say(f"{done:.0f} %: {name}: {what}")
             warn_of_attempts(scenario, name, given.color)
-            found = simulate(scenario, zsched, name, given.passes, say)
+            found = simulate(scenario, zsched, name, given.passes, say, folder is not None)
             if folder is not None:
                 say(1, "files")
                 write_files(folder, name, scenario.horizon, found)
@@ -198,6 +229,12 @@ def _exceeded(given, figures):
         yield f"{plural(figures.gave_up, 'client')} gave up{words}, over --max-gave-up {given.max_gave_up:,}"
 
 
+def _seed_of(scenario, name):
+    """The seed in words, if the figures of a policy depend on it."""
+    is_drawn = scenario.is_drawn or scenario.policies[name][0].is_drawn
+    return f", with the seed {scenario.seed}" if is_drawn else ""
+
+
 def work(given):
     name = "standard input" if given.scenario == "-" else given.scenario
     data = command.read(given.scenario)
@@ -206,7 +243,8 @@ def work(given):
             raise Refused(f"{path}: its folder doesn't exist")
     try:
         zsched = program.find(given.zsched)
-        scenario = read_scenario(data)
+        with command.budget(name):
+            scenario = read_scenario(data)
         scenario.title = given.title
         if given.max_recovery is not None and scenario.back is None:
             raise Refused(f"{name}: --max-recovery needs a window that is down and ends before the horizon")
@@ -227,7 +265,11 @@ def work(given):
         notes = [f"{name}: {it.note()}" for name, it in figures.items() if it.uncertified]
         print(headline(scenario), *policy_lines(figures), "", Paint(given.color, sys.stdout)("strong", head), *rows,
               *notes, sep="\n")
-    exceeded = [f"{TOOL}: policy {name}: {words}" for name, it in figures.items() for words in _exceeded(given, it)]
+    exceeded = [f"{TOOL}: policy {name}: {words}{_seed_of(scenario, name)}" for name, it in figures.items()
+                for words in _exceeded(given, it)]
+    lines = not_covered(given.allow_left_out, [policy for policy, _ in scenario.policies.values()], "outage")
+    if any(it is not None for it in (given.max_peak, given.max_recovery, given.max_gave_up)):
+        exceeded += [f"{TOOL}: {line}" for line in lines]
     sys.stdout.flush()
     for line in exceeded:
         print(line, file=sys.stderr)
@@ -262,6 +304,7 @@ def arguments():
                              "first attempt failed were served")
     parser.add_argument("--max-gave-up", type=_count, metavar="N",
                         help="the most clients that may give up; one that is unfinished counts")
+    add_allowed(parser)
     passes = command.number(1, 99999, "{} isn't a number of passes from 1 to 99999")
     parser.add_argument("--passes", type=passes, default=MOST_PASSES, metavar="N",
                         help=f"the most passes before the certificate ({MOST_PASSES})")

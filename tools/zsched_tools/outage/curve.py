@@ -1,14 +1,19 @@
 """What a simulated policy did: its load second by second, and its figures."""
 import json
 from collections import Counter
+from typing import NamedTuple
 
 from zsched_tools.outage.scenario import THOUSAND
 from zsched_tools.program import LAST_MOMENT
 from zsched_tools.words import WIDTH, duration, shown
 
 SHARES = [50, 95, 99]
+# How a call ends that is served: one that retries, and one that repeats.
+SERVED = {"succeeded", "finished"}
 # The times of which a peak is the worst: the name in JSON, the length, and the words. None is a second of the clock.
 SPANS = [("100ms", 100, "in 100 ms"), ("second", THOUSAND, "in a second"), ("clock_second", None, "in a clock second")]
+# The times of a call: the name in JSON, the member of Times, and the words.
+TIMES = [("time_to_end", "end", "time to the end"), ("waited", "waited", "waits in all")]
 MOST_NAMED = 10
 
 
@@ -63,6 +68,31 @@ def share_of(ordered, percent, count):
     return ordered[place - 1] if 0 < place <= len(ordered) else None
 
 
+class Times(NamedTuple):
+    """Of each call its attempts, its time up to its end and the sum of its waits, sorted: of those that have ended, and
+    of those that were served."""
+    attempts: tuple
+    end: tuple
+    waited: tuple
+    calls: int
+
+    def shares(self, name, is_served, *more):
+        """Those at the shares of the table, and at more, of all calls or of those that were served."""
+        found = getattr(self, name)[is_served]
+        return [share_of(found, percent, len(found) if is_served else self.calls) for percent in [*SHARES, *more]]
+
+
+def times_of(clients, starts):
+    """The Times of clients."""
+    found = []
+    for client, start in zip(clients, starts):
+        how, _, at, attempts = client.ending
+        if how != "unfinished":
+            found.append((attempts, at - start, at - start - sum(client.lengths), how in SERVED))
+    return Times(*((sorted(it[place] for it in found), sorted(it[place] for it in found if it[3]))
+                   for place in range(3)), len(clients))
+
+
 class Figures:
     """The figures of a policy, for one column of the table. `uncertified` has the names of those in no report."""
 
@@ -71,12 +101,13 @@ class Figures:
         self.passes, self.clients, self.uncertified = passes, len(clients), uncertified
         counts = [client.ending.attempts for client in clients]
         self.attempts, self.greatest = sum(counts), max(counts)
-        self.times = sorted(client.ending.at - start for client, start in zip(clients, scenario.starts)
-                            if client.ending.how == "succeeded")
+        self.of_calls = times_of(clients, scenario.starts)
+        self.times = self.of_calls.end[1]
         self.mean = round(10 * self.attempts / len(self.times)) / 10 if self.times else None
         self.last_success = _last_success([client.ending for client in clients])
-        endings = Counter(client.ending.how for client in clients)
-        self.gave_up, self.unfinished = endings["failed"], endings["unfinished"]
+        self.endings = endings = Counter(client.ending.how for client in clients)
+        self.cut, self.unfinished = endings["cut"], endings["unfinished"]
+        self.gave_up = endings["failed"] + self.cut
         self.denied = sum(scenario.budget is not None and client.ending.how == "failed"
                           and client.ending.value == scenario.budget.code for client in clients)
         self.peaks = [self.curve.peak(span) for _, span, _ in SPANS]
@@ -117,9 +148,12 @@ class Figures:
             "attempts_greatest": self.greatest, "peak": peaks(self.peaks),
             "peak_after": peaks(self.peaks_after) or None,
             "time_to_success_ms": dict(zip([f"p{percent}" for percent in SHARES] + ["greatest"], self.shares())),
+            **{key + "_served" * is_served + "_ms": dict(zip([f"p{percent}" for percent in SHARES],
+                                                             self.of_calls.shares(which, is_served)))
+               for key, which, _ in TIMES for is_served in (False, True)},
             "succeeded": len(self.times), "last_success_ms": self.last_success, "recovery_ms": self.recovery,
             "first_failed": self.first_failed, "recovered": self.recovered,
-            "gave_up": self.gave_up, "out_of_budget": self.denied, "unfinished": self.unfinished,
+            "gave_up": self.gave_up, "out_of_budget": self.denied, "by_limit": self.cut, "unfinished": self.unfinished,
             "certified": self.clients - len(self.uncertified), "not_certified": self.uncertified, "passes": self.passes}
 
 
@@ -134,7 +168,8 @@ def to_json(scenario, figures):
     return json.dumps({
         "scenario": headline(scenario), "clients": len(scenario.starts), "horizon_ms": scenario.horizon,
         "seed": scenario.seed, "back_ms": scenario.back,
-        "policies": [it.members(name) for name, it in figures.items()]}, ensure_ascii=False)
+        "policies": [it.members(name) | scenario.policies[name][0].limits() for name, it in figures.items()]},
+        ensure_ascii=False)
 
 
 def policy_lines(figures):
@@ -168,12 +203,20 @@ def table(scenario, figures):
     for number, name in enumerate([*(f"p{percent}" for percent in SHARES), "greatest"]):
         head = "  " if number else "time to success, "
         yield row(head + name, lambda it, number=number: _time(it.shares()[number]))
+    for _, which, words in TIMES:
+        for is_served in (False, True):
+            for number, percent in enumerate(SHARES):
+                head = "  " if number else "  if served, " if is_served else f"{words}, "
+                yield row(f"{head}p{percent}", lambda it, place=(which, is_served), number=number: _time(
+                    it.of_calls.shares(*place)[number]))
     yield row("last success at", lambda it: _time(it.last_success))
     if scenario.back is not None:
         yield row(f"recovery after {duration(scenario.back)}", lambda it: it.recovery_words())
     yield row("gave up", lambda it: _up_to(it.gave_up, it.unfinished))
     if scenario.budget is not None:
         yield row("  out of budget", lambda it: _up_to(it.denied, it.unfinished))
+    if any(it.cut for it in columns):
+        yield row("  by the call's limit", lambda it: f"{it.cut:,}")
     yield row("unfinished", lambda it: f"{it.unfinished:,}")
     yield row("certified", lambda it: it.certified())
 

@@ -2,16 +2,15 @@
 windows of the service are shaded. An outcome is shown by its colour and by its place: ok is above err.
 
 A page has the picture in two widths, of which it shows the one that fits, and the table, in one file."""
-import html
-
-from zsched_tools.drawing import Scale, cut_text, labels, opening, path, place, rectangle, steps_to, text, text_width
+from zsched_tools.drawing import (Scale, cut_text, escaped, labels, opening, path, place, rectangle, steps_to, text,
+                                  text_width)
 from zsched_tools.outage.curve import headline, policy_lines, state_words, table
 from zsched_tools.outage.scenario import DOWN, THOUSAND
 from zsched_tools.words import WIDTH, duration, shown
 
 MARGIN, PANEL, GAP = 16, 120, 34
-# The room above a panel for the policy, and above its loads for what the service does.
-HEAD_ROOM, WORDS = 36, 18
+# The room above a panel for the policy and the title of its loads, and above the loads for what the service does.
+HEAD_ROOM, WORDS = 50, 18
 SMALL, LETTERS, TITLE = 11, 12, 14
 # A picture has no more columns than this; of more seconds some share one.
 MOST_COLUMNS = 600
@@ -157,13 +156,15 @@ def _panel(layout, number, name):
     verdict = [f"{figures.attempts:,} attempts", f"peak {height:,} a second, {short:,} in 100 ms", words]
     room = layout.width - MARGIN - layout.left
     called, policy = cut_text(name, LETTERS, room / 3), shown(figures.text, 10 * WIDTH)
-    yield text(layout.left, top - WORDS - 23, called, "name", title=name)
+    yield text(layout.left, top - WORDS - 37, called, "name", title=name)
     begin = layout.left + 1.15 * text_width(called, LETTERS) + 8
-    yield text(begin, top - WORDS - 23, cut_text(policy, SMALL, layout.width - MARGIN - begin), "soft", title=policy)
+    yield text(begin, top - WORDS - 37, cut_text(policy, SMALL, layout.width - MARGIN - begin), "soft", title=policy)
     words = "; ".join(verdict)
     while text_width(words, SMALL) > room and "; " in words:
         words = words.rpartition("; ")[0]
-    yield text(layout.left, top - WORDS - 7, words, "soft", title="; ".join(verdict))
+    yield text(layout.left, top - WORDS - 21, words, "soft", title="; ".join(verdict))
+    axis = "attempts in each second" + (f", the most of {layout.every} seconds" if layout.every > 1 else "")
+    yield text(MARGIN, top - WORDS - 5, axis, "soft")
     below, above = _windows(layout, top)
     yield from below
     yield from _grid(layout, top)
@@ -181,17 +182,14 @@ def _legend(layout):
     styles = {"begun": "begun", "ok": "ended ok", "err": "ended err", "running": "running", "capacity": "capacity"}
     if not any('"capacity"' in it for it in _windows(layout, layout.top)[1]):
         del styles["capacity"]
-    styles[None] = "attempts in each second" + (f", the most of {layout.every} seconds" if layout.every > 1 else "")
     for style, words in styles.items():
-        room = 24 if style else 0
-        if left + room + text_width(words, SMALL) > layout.width - MARGIN:
+        width = 24 + text_width(words, SMALL)
+        if left + width > layout.width - MARGIN:
             left, base = float(MARGIN), base + 18
-        if style in ("begun", "running", "capacity"):
-            found.append(path(f"M{place(left)} {place(base - 4)}h18", style))
-        elif style:
-            found.append(rectangle(left, base - 10, left + 18, base + 1, style))
-        found.append(text(left + room, base, words, "soft"))
-        left += room + text_width(words, SMALL) + 18
+        is_line = style in ("begun", "running", "capacity")
+        found += [path(f"M{place(left)} {place(base - 4)}h18", style) if is_line else
+                  rectangle(left, base - 10, left + 18, base + 1, style), text(left + 24, base, words, "soft")]
+        left += width + 18
     return found, base + MARGIN
 
 
@@ -212,19 +210,22 @@ def draw_curves(scenario, figures, width=960, is_file=True):
 
 def curve_page(scenario, figures):
     """The page, in pieces."""
-    yield PAGE_HEAD.format(title=html.escape(headline(scenario)))
+    yield PAGE_HEAD.format(title=escaped(headline(scenario)))
     for style, width in [("wide", 920), ("narrow", 360)]:
         yield f'<div class="{style}">\n'
         for line in draw_curves(scenario, figures, width, is_file=False):
             yield f"{line}\n"
         yield "</div>\n"
-    yield '<div class="table"><table>\n'
-    for number, cells in enumerate(table(scenario, figures)):
-        mark = "th" if number == 0 else "td"
-        yield f'<tr><th scope="row">{html.escape(cells[0])}</th>'
-        yield "".join(f"<{mark}>{html.escape(cell)}</{mark}>" for cell in cells[1:]) + "</tr>\n"
-    yield "</table></div>\n"
+    rows, each = [*table(scenario, figures)], range(1, len(figures) + 1)
+    # A narrow window has room for the columns of two policies.
+    for style, columns in [("wide", each), *(("narrow", [it]) for it in each)] if len(each) > 2 else [("", each)]:
+        yield f'<div class="table {style}"><table>\n'
+        for number, cells in enumerate(rows):
+            mark = "th" if number == 0 else "td"
+            yield f'<tr><th scope="row">{escaped(cells[0])}</th>'
+            yield "".join(f"<{mark}>{escaped(cells[it])}</{mark}>" for it in columns) + "</tr>\n"
+        yield "</table></div>\n"
     notes = [f"{name}: {it.note()}" for name, it in figures.items() if it.uncertified]
     for line in [*policy_lines(figures), *notes]:
-        yield f'<p class="policy">{html.escape(line)}</p>\n'
+        yield f'<p class="policy">{escaped(line)}</p>\n'
     yield NOTE + "</html>\n"

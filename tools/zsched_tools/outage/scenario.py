@@ -9,9 +9,10 @@ from typing import NamedTuple
 
 from zsched_tools import faults, json_reading
 from zsched_tools.command import Refused
-from zsched_tools.drawn import Policy
+from zsched_tools.drawn import policies_of
 from zsched_tools.durations import milliseconds
 from zsched_tools.hints import near
+from zsched_tools.outage.outcomes import WHOLE, Choice, Outcome, Outcomes, Spread, always, drawn
 from zsched_tools.place import Cause, FaultAt
 from zsched_tools.plan_faults import over
 from zsched_tools.program import LAST_MOMENT
@@ -24,16 +25,6 @@ BUDGETS = {"grpc": ["like", "tokens", "ok", "err"], "aws": ["like", "tokens", "o
            "envoy": ["like", "percent", "least", "err"], "finagle": ["like", "percent", "per_second", "ttl", "err"]}
 UP, DOWN, SLOW, FULL = range(4)
 THOUSAND = 1000
-
-
-class Outcome(NamedTuple):
-    """How an attempt ends: after how long, and with a value (ok) or an error code."""
-    ms: int
-    is_ok: bool
-    value: int
-
-    def entry(self):
-        return f'{{"ms":{self.ms},"{"ok" if self.is_ok else "err"}":{self.value}}}'
 
 
 class Window(NamedTuple):
@@ -60,7 +51,9 @@ class Budget(NamedTuple):
 
 @dataclass
 class Scenario:
-    """What is simulated. `starts` has the moment of each client's first attempt."""
+    """What is simulated. `starts` has the moment of each client's first attempt, and `outcomes` those of each state.
+    `is_usual` says that the file doesn't say how a service fails that is down. Of the policy are `deadline`, the limit
+    of each call, `late`, how an attempt ends at its limit, and `is_repeat`: a client goes on after each success."""
     horizon: int
     seed: int
     starts: list
@@ -70,6 +63,33 @@ class Scenario:
     budget: Budget | None
     policies: dict
     title: str = ""
+    deadline: int | None = None
+    late: Outcome | None = None
+    is_repeat: bool = False
+    is_usual: bool = False
+
+    def __post_init__(self):
+        self.fixed = [it.only for it in self.outcomes]
+
+    @property
+    def is_drawn(self):
+        """Whether the outcomes of attempts are drawn."""
+        return None in self.fixed
+
+    def outcome(self, state, client, number):
+        """How an attempt of a client ends in a state. `number` is that of the attempt, from 0."""
+        if found := self.fixed[state]:
+            return found
+        found = drawn(self.outcomes, state, DOWN, self.seed, client, number)
+        return self.late if self.late and found.ms > self.late.ms else found
+
+    def each(self):
+        """Each of the outcomes of all states."""
+        return [it.outcome for of_state in self.outcomes for it in of_state.choices]
+
+    def errors(self):
+        """The error codes of the service."""
+        return {it.value for it in self.each() if not it.is_ok}
 
     @property
     def back(self):
@@ -78,28 +98,55 @@ class Scenario:
         ends = [window.end for window in self.windows if window.state == DOWN]
         return max(ends) if ends and max(ends) <= self.horizon else None
 
-    def limited(self, timeout):
-        """The scenario with a limit of an attempt, or None: a longer one fails then, as if the service were down."""
-        late = timeout and Outcome(timeout, False, self.outcomes[DOWN].value)
-        return replace(self, outcomes=[late if late and it.ms > timeout else it for it in self.outcomes])
+    def limited(self, policy):
+        """The scenario of a policy with its limits: an attempt that is longer fails then, as if the service were down.
+        If the file doesn't say how it fails, that is an error of the policy's own kind. A wait that is asked for and
+        longer than the policy's limit isn't made."""
+        code = policy.failing if self.is_usual else self.outcomes[DOWN].choices[0].outcome.value
+        late = policy.timeout and Outcome(policy.timeout, False, code)
+
+        def seen(it):
+            it = it._replace(value=code) if self.is_usual and it == DEFAULTS[DOWN] else it
+            return it if it.asks <= (policy.asked or 0) else it._replace(asks=0)
+        outcomes = [it.mapped(seen) for it in self.outcomes]
+        outcomes = [always(late) if late and it.only and it.only.ms > late.ms else it for it in outcomes]
+        return replace(self, outcomes=outcomes, deadline=policy.deadline, late=late,
+                       is_repeat=policy.mode == "repeat")
+
+    def limit_of(self, client):
+        """The moment at which the call of a client ends by its limit, if that is up to the horizon."""
+        limit = self.starts[client] + self.deadline if self.deadline else LAST_MOMENT + 1
+        return limit if limit <= self.horizon else LAST_MOMENT + 1
 
 
 DEFAULTS = [Outcome(40, True, 200), Outcome(50, False, 503), Outcome(2000, True, 200)]
 
 
-def read_scenario(data):
-    """The scenario of a file's bytes. FaultAt has a fault and its place."""
+def _root(data):
+    """The root of a JSON document. FaultAt has a fault and its place."""
     read = faults.Plan(data)
     cause = read.no_json if read.no_utf8 is None else json_reading.no_utf8(data, read.text, read.no_utf8)
     if cause is not None:
         raise FaultAt(_of_scenario(cause))
+    return read.root
+
+
+def read_world(data):
+    """The outcomes of a service that is up, of a text's bytes. FaultAt has a fault and its place."""
+    return _state(_root(data), "up")
+
+
+def read_scenario(data):
+    """The scenario of a file's bytes. FaultAt has a fault and its place."""
+    root = _root(data)
     known = ["horizon", "seed", "clients", "windows", "outcomes", "budget", "policies"]
-    parts = _members(read.root, "the scenario", known, ["horizon", "clients", "policies"])
+    parts = _members(root, "the scenario", known, ["horizon", "clients", "policies"])
     horizon, seed = _time(parts["horizon"], "the horizon"), _if(parts, "seed", _whole, "the seed", 0)
     starts, coming = _clients(parts["clients"])
     outcomes, windows = _outcomes(parts.get("outcomes")), list(_windows(parts.get("windows")))
     budget = _budget(parts["budget"], outcomes) if "budget" in parts else None
-    return Scenario(horizon, seed, starts, coming, windows, outcomes, budget, dict(_policies(parts["policies"])))
+    return Scenario(horizon, seed, starts, coming, windows, outcomes, budget, _named(_policies(parts["policies"])),
+                    is_usual="outcomes" not in parts or outcomes[DOWN].only is DEFAULTS[DOWN])
 
 
 def _of_scenario(cause):
@@ -132,12 +179,23 @@ def _members(node, where, known, needed):
 
 
 _SAMPLES = {"horizon": '"3min"', "clients": '{"number": 1000, "within": "1s"}', "policies": '{"NAME": "SCHEDULE"}',
-            "number": "1000", "from": '"0s"', "ms": "50", "like": '"grpc" or "aws"', "tokens": "100"}
+            "number": "1000", "from": '"0s"', "ms": "50", "p50": "80", "p99": "600", "like": '"grpc" or "aws"',
+            "tokens": "100"}
+
+
+# What no script says, with the reason.
+_BREAKER = ("a breaker decides by the attempts of other calls, and each client runs a schedule alone; a budget is what "
+            "clients share")
+_HEDGING = "a hedged call has attempts that run side by side, and those of a schedule run one after another"
+UNSAID = {**dict.fromkeys(["breaker", "circuit_breaker", "circuitBreaker"], _BREAKER),
+          **dict.fromkeys(["hedging", "hedge", "hedgingPolicy"], _HEDGING)}
 
 
 def _key_help(key, known):
     if key in ("jobs", "workers", "grain", "ticks"):
         return "this is a key of a plan, which zsched runs; a scenario has clients, windows and policies"
+    if key in UNSAID:
+        return UNSAID[key]
     meant = near(key, known)
     return f'did you mean "{meant}"?' if meant else f"the keys are {listed(known)}"
 
@@ -207,23 +265,70 @@ def _clients(node):
 
 
 def _outcomes(node):
-    """How an attempt ends in each state of the service. A full one is as one that is down, without "full"."""
+    """The outcomes of each state of the service. A full one is as one that is down, without "full"."""
     parts = {} if node is None else _members(node, "outcomes", STATES, [])
-    found = [_outcome(parts[name], name) if name in parts else default for name, default in zip(STATES, DEFAULTS)]
-    return found + [_outcome(parts["full"], "full") if "full" in parts else found[DOWN]]
+    found = [_state(parts[name], name) if name in parts else always(default) for name, default in zip(STATES, DEFAULTS)]
+    return found + [_state(parts["full"], "full") if "full" in parts else found[DOWN]]
 
 
-def _outcome(node, name):
-    """An outcome, written as an entry of a plan's script."""
-    parts = _members(node, f"the outcome of a service that is {name}", ["ms", "ok", "err"], ["ms"])
+def _state(node, name):
+    """The outcomes of a state: one, as an entry of a plan's script, or a list of some with their shares."""
+    if node.kind != "list":
+        outcome, spread, parts = _outcome(node, name, ["fail"])
+        if "fail" in parts and not outcome.is_ok:
+            _refuse(parts["fail"], '"fail" is the share of the attempts that fail, and here all fail')
+        return Outcomes((Choice(WHOLE, outcome, spread),), _if(parts, "fail", _percent, '"fail"', 0))
+    found = [_outcome(item, name, ["share"]) for item in node.items()]
+    shares = [_if(parts, "share", _percent, '"share"', None) for _, _, parts in found]
+    rest = WHOLE - sum(filter(None, shares))
+    if not found or shares.count(None) != (rest > 0) or rest < 0:
+        _refuse(node, f"the outcomes of a service that is {name} have no shares of 100 % together",
+                'write [{"share": "10%", ..}, {..}]: that of one outcome may be left out, and is the rest')
+    if name == "up" and not any(it.is_ok for it, _, _ in found):
+        _refuse(node, "a service that is up returns ok", 'a state in which it fails is "down"')
+    choices, below = [], 0
+    for (outcome, spread, _), share in zip(found, shares):
+        below += rest if share is None else share
+        choices.append(Choice(below, outcome, spread))
+    return Outcomes(tuple(choices))
+
+
+def _outcome(node, name, more):
+    """An outcome, its spread of durations or None, and its members."""
+    known = ["ms", "ok", "err", "retry_after", *more]
+    parts = _members(node, f"the outcome of a service that is {name}", known, ["ms"])
     if ("ok" in parts) == ("err" in parts):
         _refuse(node, 'an outcome has "ms" and one of "ok" and "err"', 'write {"ms": 50, "err": 503}')
     is_ok = "ok" in parts
-    if name == "up" and not is_ok or name in ("down", "full") and is_ok:
+    if name == "up" and not is_ok and "share" not in more or name in ("down", "full") and is_ok:
         _refuse(node, f'a service that is {name} returns {"ok" if name == "up" else "err"}',
                 'a state in which it fails is "down"' if name == "up" else "")
-    value = _whole(parts["ok" if is_ok else "err"], "a code")
-    return Outcome(_whole(parts["ms"], "ms", 1, LAST_MOMENT), is_ok, value)
+    if is_ok and "retry_after" in parts:
+        _refuse(parts["retry_after"], "only an error asks for a wait")
+    value, spread = _whole(parts["ok" if is_ok else "err"], "a code"), None
+    if parts["ms"].kind == "object":
+        spread = _spread(parts["ms"])
+    ms = spread.p50 if spread else _whole(parts["ms"], "ms", 1, LAST_MOMENT)
+    return Outcome(ms, is_ok, value, _if(parts, "retry_after", _time, "retry_after", 0)), spread, parts
+
+
+def _spread(node):
+    """The distribution of a duration, by two of its percentiles."""
+    parts = _members(node, "ms", ["p50", "p99"], ["p50", "p99"])
+    found = Spread(*(_time(parts[name], name) for name in ["p50", "p99"]))
+    if not 1 <= found.p50 <= found.p99:
+        _refuse(node, "p50 must be from 1 ms to p99", 'write {"p50": 80, "p99": 600}')
+    return found
+
+
+def _percent(node, what):
+    """A share of more than 0, in thousandths of a percent."""
+    found = re.fullmatch(r"([0-9]{1,3}(?:\.[0-9]{1,3})?) *%", node.string()) if node.kind == "text" else None
+    share = found and int(fractions.Fraction(found[1]) * THOUSAND)
+    if not share or share > WHOLE:
+        _refuse(node, f"{what} must be a share above 0 % and up to 100 %", 'write "10%", with at most three digits '
+                "after the point")
+    return share
 
 
 def _windows(node):
@@ -263,7 +368,7 @@ def _budget(node, outcomes):
     like = _word(_members(node, "the budget", None, ["like"])["like"], '"like"', list(BUDGETS))
     parts = _members(node, f'a budget like "{like}"', BUDGETS[like], ["tokens"] * ("tokens" in BUDGETS[like]))
     code = _if(parts, "err", _whole, "err", 0)
-    if any(code == outcome.value for outcome in outcomes if not outcome.is_ok):
+    if any(code == it.outcome.value for of_state in outcomes for it in of_state.choices if not it.outcome.is_ok):
         _refuse(parts.get("err", node), f"{code} is an error code of the service too",
                 'write "err": with another code, for clients whose retries the budget rejects')
     retry = _if(parts, "retry", _thousandths, "retry", (5 if like == "aws" else 1) * THOUSAND)
@@ -278,6 +383,16 @@ def _budget(node, outcomes):
     return Budget(like, reserve, THOUSAND if percent else 0, price, code, ttl)
 
 
+def _named(policies):
+    """The policies by their names, of which no two are equal."""
+    found = {}
+    for name, (policy, node) in policies:
+        if name in found:
+            _refuse(node, f"two policies have the name {name}", "write @FILE#NAME")
+        found[name] = policy, node
+    return found
+
+
 def _policies(node):
     """The name of each policy, with the policy and its place."""
     if not (parts := _members(node, "policies", None, [])):
@@ -288,7 +403,9 @@ def _policies(node):
         if value.kind != "text":
             _refuse(value, f"the policy {name} must be the text of a schedule", 'as "exponential(100)"')
         try:
-            yield name, (Policy(value.string()), value)
+            found = policies_of(value.string())
+            for it in found:
+                yield f"{name}-{it.name}"[:64] if found[1:] else name, (it, value)
         except FaultAt as fault:
             raise FaultAt(in_text(value, fault.cause)) from None
         except Refused as refused:

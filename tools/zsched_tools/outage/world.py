@@ -85,6 +85,9 @@ class Bucket:
     def ended(self, is_first):
         """An attempt ended."""
 
+    def dropped(self):
+        """A retry that was allowed isn't made, since its call has ended."""
+
     def lets_retry(self, is_wanted, moment=0):
         """An attempt failed. Returns whether a retry is allowed. gRPC takes a token for each failure, and then allows a
         retry if more than half of the tokens remain. AWS takes the price of a wanted retry."""
@@ -112,6 +115,9 @@ class Share(Bucket):
     def ended(self, is_first):
         self.running -= 1
         self.retries -= not is_first
+
+    def dropped(self):
+        self.retries -= 1
 
     def succeeded(self, is_first):
         """Returns nothing to a share."""
@@ -154,17 +160,20 @@ BUDGETS = {"grpc": Bucket, "aws": Bucket, "envoy": Share, "finagle": Deposits}
 class Walk:
     """All attempts of all clients, in the order of their moments. At one moment ends are before begins, and clients are
     in the order of their numbers. `found` has the kinds of each client's attempts, `endings` its ending (None if its
-    run ends first)."""
+    run ends first). At the limit of its call a client gives up: `cut`, after an attempt that ends then, and before one
+    that would begin. `waiting` has those that wait for that with an allowed retry."""
 
     def __init__(self, scenario, runs):
         self.scenario, self.runs = scenario, runs
-        self.service = Service(scenario.windows)
+        self.service, self.fixed = Service(scenario.windows), scenario.fixed
+        self.limits = [scenario.limit_of(it) for it in range(len(runs) if scenario.deadline else 1)]
+        self.limits *= 1 if scenario.deadline else len(runs)
         self.bucket = BUDGETS[scenario.budget.like](scenario.budget) if scenario.budget else None
         # A table from each kind to the first one with the same outcome.
         known = scenario.outcomes
         self.outcomes = bytes(known.index(known[it]) if it < len(known) else it for it in UNDENIED)
         self.found = [bytearray() for _ in runs]
-        self.endings = [None] * len(runs)
+        self.endings, self.waiting = [None] * len(runs), set()
         count = len(runs)
         queue = [(2 * run.begins[0] + 1) * count + client for client, run in enumerate(runs) if run.begins]
         heapq.heapify(queue)
@@ -187,7 +196,8 @@ class Walk:
         self.found[client].append(kind)
         if self.bucket:
             self.bucket.began(len(self.found[client]) == 1, moment)
-        end = moment + self.scenario.outcomes[kind].ms
+        outcome = self.fixed[kind] or self.scenario.outcome(kind, client, len(self.found[client]) - 1)
+        end = min(moment + outcome.ms, self.limits[client])
         if end > self.scenario.horizon:
             self._close(client, "unfinished", None, self.scenario.horizon)
             return None
@@ -195,23 +205,35 @@ class Walk:
 
     def _end(self, client, moment):
         """An attempt ends: the client's next event, or None."""
-        kinds, run = self.found[client], self.runs[client]
-        count, outcome = len(kinds), self.scenario.outcomes[kinds[-1]]
+        kinds, run, limit = self.found[client], self.runs[client], self.limits[client]
+        count, is_repeat = len(kinds), self.scenario.is_repeat
+        outcome = self.fixed[kinds[-1]] or self.scenario.outcome(kinds[-1], client, count - 1)
+        if client in self.waiting:
+            self.bucket.dropped()
+            return self._close(client, "cut", None, limit)
         if self.bucket:
             self.bucket.ended(count == 1)
-        if outcome.is_ok:
+        if run.begins[count - 1] + outcome.ms > limit:
+            return self._close(client, "cut", None, limit)
+        if outcome.is_ok != is_repeat:
             if self.bucket:
                 self.bucket.succeeded(count == 1)
-            return self._close(client, "succeeded", outcome.value, moment)
+            return self._close(client, "failed" if is_repeat else "succeeded", outcome.value, moment)
         is_last = count == len(run.begins)
         is_done = is_last and run.tail == DONE
         if self.bucket and not self.bucket.lets_retry(not is_done, moment) and not is_done:
             kinds[-1] += DENIED
             return self._close(client, "failed", self.scenario.budget.code, moment)
+        following = run.begins[count] if not is_last else self.scenario.horizon if run.tail == GOES_ON else limit - 1
+        if following >= limit:
+            if not self.bucket:
+                return self._close(client, "cut", None, limit)
+            self.waiting.add(client)
+            return 2 * limit
         if not is_last:
-            return 2 * run.begins[count] + 1
+            return 2 * following + 1
         if is_done:
-            self._close(client, "failed", outcome.value, moment)
+            self._close(client, *(("finished", None) if is_repeat else ("failed", outcome.value)), moment)
         elif run.tail == GOES_ON:
             self._close(client, "unfinished", None, self.scenario.horizon)
         return None
@@ -225,7 +247,8 @@ class Walk:
         ending, kinds, run = self.endings[client], self.found[client], self.runs[client]
         if ending is None:
             return False
-        is_running = ending.how == "unfinished" and kinds and (
-            run.begins[len(kinds) - 1] + self.scenario.outcomes[kinds[-1]].ms > self.scenario.horizon)
-        count = min(len(kinds) - bool(ending.how == "succeeded" or is_running), MOST_ENTRIES)
+        last = kinds and self.scenario.outcome(kinds[-1] & ~DENIED, client, len(kinds) - 1)
+        is_running = ending.how in ("unfinished", "cut") and kinds and run.begins[len(kinds) - 1] + last.ms > ending.at
+        is_last = kinds and last.is_ok != self.scenario.is_repeat
+        count = min(len(kinds) - bool(is_last or is_running), MOST_ENTRIES)
         return kinds[:count].translate(self.outcomes) == run.kinds[:count].translate(self.outcomes)

@@ -20,8 +20,8 @@ def _arguments():
     given.add_argument("--until", type=importing.until, metavar="TIME",
                        help="the horizon, if the file has no horizon (1h; 1h after the end of a log)")
     log = given.add_argument_group("for a log")
-    log.add_argument("--schedule", metavar="TEXT", help="the schedule of each job; a log needs it")
-    log.add_argument("--mode", choices=["retry", "repeat"], default="retry", help="(retry)")
+    log.add_argument("--schedule", metavar="POLICY", help="the policy of each job; a log needs it")
+    log.add_argument("--mode", choices=["retry", "repeat"], help="(as the policy says, or else retry)")
     form = log.add_mutually_exclusive_group()
     form.add_argument("--windows", action="store_true", help="a scenario for zsched-outage, not a plan")
     form.add_argument("--by-attempt", action="store_true", help="the k-th attempt of a job ends as the k-th in the log")

@@ -40,6 +40,8 @@ HOUR = 3_600_000
 _HORIZON = re.compile(r'("horizon":)([0-9]{1,15})(?![0-9.eE])')
 ABOUT = """Converts FILE to a plan, and writes it to standard output.
 
+  zsched-plan from log.csv --schedule '(exponential(100) && recurs(5))' > plan.json
+
 A log (.csv, .tsv, .jsonl, .ndjson; .json for a list, or spans of OpenTelemetry or Jaeger) has an attempt a row, in any
 order: its request, its begin, its length or end, and its status. Columns are found by their names, as request_id,
 timestamp, duration_ms, status; standard error says how each is read, and docs/FORMATS.md has all rules. Without a
@@ -232,6 +234,7 @@ def convert(given):
     suffix = pathlib.Path(given.file).suffix.lower()
     given.data = command.read("-") if given.file == "-" else None
     if given.data is None and suffix not in [*READERS, *LOGS]:
+        command.read(given.file)
         raise Refused(f"{given.file}: the name must end with one of {', '.join([*LOGS, *READERS])}")
     if given.data is not None:
         is_toml = re.search(rb"\A(?:\s|#.*\n)*(?:\[|[\w\"'-]+\s*=)", given.data)
@@ -250,8 +253,9 @@ def convert(given):
     if jobs > MOST_JOBS or data.tell() > program.MAX_BYTES:
         _say(f"the plan has {jobs} jobs and {data.tell()} bytes, and one run takes {MOST_JOBS} and "
              f"{program.MAX_BYTES}: docs/SCALE.md runs it as JSON lines")
-    if given.out is None:
-        sys.stdout.buffer.write(data.getbuffer())
+    if given.out in (None, "-"):
+        data.seek(0)
+        sys.stdout.writelines(io.TextIOWrapper(data, "utf-8", newline="\n"))
     else:
         command.write(given.out, data.getbuffer())
 
@@ -324,13 +328,14 @@ def _of_policies(given, read):
     notes = Notes()
     try:
         source = Source(given.file, given.data.decode("utf-8-sig"))
-        root = plan_of(read(source.text), HOUR if given.until is None else given.until, notes)
-        plan = Written(root)
+        with command.budget(given.file):
+            root = plan_of(read(source.text), HOUR if given.until is None else given.until, notes)
+            plan = Written(root)
     except UnicodeDecodeError as fault:
         line = given.data.count(b"\n", 0, fault.start) + 1
         raise Refused(f"{given.file}:{line}: the text is not UTF-8") from None
     except FaultAt as fault:
-        raise Refused(told(*source, fault.cause)) from None
+        raise Refused(*told(*source, fault.cause)) from None
     jobs = root.data.get("jobs")
     count = len(jobs.data) if jobs is not None and isinstance(jobs.data, list) else 0
     if count <= MOST_JOBS and len(plan.text.encode()) <= program.MAX_BYTES:
@@ -349,6 +354,6 @@ def check(source, plan, zsched, jobs=1):
         fault = faults.explained(faults.Plan(data), line)
         at, is_letter = plan.place(fault.cause.at)
         cause = fault.cause._replace(at=at, size=fault.cause.size if is_letter else 1)
-        raise Refused(told(*source, cause, fault.name))
+        raise Refused(*told(*source, cause, fault.name))
     if status:
         raise OSError(f"{found}: {line or f'status {status}'}")

@@ -8,15 +8,19 @@ import tomllib
 
 from zsched_tools.place import Cause, FaultAt
 from zsched_tools.plan.placed import DEEPEST, Raw, Value, key
-from zsched_tools.policy.reading import documents
+from zsched_tools.policy.reading import LONGEST, documents
 
 # More than the longest plan has. An alias in a list of aliases may represent any number of values.
 MOST_VALUES = 5_000_000
 
 _NUMBER = re.compile(r"-?(?:0|[1-9][0-9]*)(?:\.[0-9]+)?(?:[eE][+-]?[0-9]+)?")
-_BARE = r"[A-Za-z0-9_-]+"
-_HEADER = re.compile(rf"\s*(\[\[?)\s*({_BARE}(?:\s*\.\s*{_BARE})*)\s*\]\]?\s*(?:#.*)?")
-_ASSIGNED = re.compile(rf"""\s*(?:({_BARE})|"([^"\\]+)"|'([^']+)')\s*=\s*""")
+_BARE = r"[A-Za-z0-9_-]++"
+_NAME = rf"""(?:{_BARE}|"[^"\n]*+"|'[^'\n]*+')"""
+_HEADER = re.compile(rf"\s*+(\[\[?)\s*+({_BARE}(?:\s*\.\s*+{_BARE})*)\s*+\]\]?\s*+(?:#.*)?")
+_ASSIGNED = re.compile(rf"""\s*+(?:({_BARE})|"([^"\\]++)"|'([^']++)')\s*+=\s*+""")
+# A name of too many parts, for which Python's reader takes the square of their number.
+_DOTTED = re.compile(rf"^[ \t\[]*+(?:{_NAME}[ \t]*+\.[ \t]*+){{{DEEPEST}}}", re.M)
+_LONG = "this number is longer than any number of a plan"
 _TOML_PLACE = re.compile(r"(.*) \(at (?:line (\d+), column (\d+)|end of document)\)", re.DOTALL)
 
 
@@ -37,7 +41,7 @@ def read_yaml(text):
 def _of_yaml(text, data, mark, kind):
     """A Value of its data, its mark, and the kind of a scalar."""
     if kind in ("int", "float") and _NUMBER.fullmatch(data):
-        data = int(data) if data.isdigit() else Raw(data)
+        data = int(data) if data.isdigit() and len(data) < 30 else Raw(data)
     elif kind in ("bool", "null"):
         data = None if kind == "null" else data.lower() in ("yes", "true", "on")
     elif isinstance(data, str):
@@ -46,10 +50,14 @@ def _of_yaml(text, data, mark, kind):
 
 
 def read_toml(text):
+    if found := _DOTTED.search(text):
+        raise FaultAt(Cause(found.start(), 1, f"this is nested deeper than {DEEPEST}"))
     try:
         tree = tomllib.loads(text)
-    except tomllib.TOMLDecodeError as fault:
-        what, line, column = _TOML_PLACE.fullmatch(str(fault)).groups()
+    except ValueError as fault:
+        if not (found := _TOML_PLACE.fullmatch(str(fault))):
+            raise FaultAt(Cause(re.search("[0-9_]{4000}", text).start(), 1, _LONG)) from None
+        what, line, column = found.groups()
         at = len(text)
         if line:
             at = sum(len(row) + 1 for row in text.split("\n")[:int(line) - 1]) + int(column) - 1
@@ -75,9 +83,9 @@ def _toml_places(text):
     """The starts of the keys and values of a TOML document, by their paths."""
     found, counts, base, here = {(): (0, 0)}, {}, (), 0
     for line in text.split("\n"):
-        header, assigned = _HEADER.fullmatch(line.rstrip("\r")), _ASSIGNED.match(line)
+        header, assigned = len(line) <= LONGEST and _HEADER.fullmatch(line.rstrip("\r")), _ASSIGNED.match(line)
         if header:
-            base = _header_path(re.split(r"\s*\.\s*", header[2]), header[1] == "[[", counts)
+            base = _header_path([it.strip() for it in header[2].split(".")], header[1] == "[[", counts)
             at = here + header.start(1)
             found.setdefault(base, (at, at))
             found.setdefault(base[:-1] if header[1] == "[[" else base, (at, at))
@@ -107,4 +115,6 @@ def _value_of(text, places, data, path, outer):
         return Value(Raw(repr(data)), at)
     if not isinstance(data, (bool, int)):
         raise FaultAt(Cause(at, 1, "a plan has no dates", "write milliseconds"))
+    if data.bit_length() > 1000:
+        raise FaultAt(Cause(at, 1, _LONG))
     return Value(data, at)

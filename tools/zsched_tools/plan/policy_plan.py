@@ -6,13 +6,14 @@ from zsched_tools.durations import exact_milliseconds
 from zsched_tools.hints import JOB_KEYS
 from zsched_tools.place import Cause, FaultAt
 from zsched_tools.plan.placed import Raw, Value, key
+from zsched_tools.policy.reading import LONGEST
 from zsched_tools.program import MOST_ENTRIES
 from zsched_tools.words import shown
 
 LONGEST_NAME = 64
 DEFAULTS = ("mode", "start", "script")
 _ALLOWED = re.compile(rf"[A-Za-z0-9._-]{{1,{LONGEST_NAME}}}")
-_ATTEMPT = re.compile(r"\s*(.+?)\s+(ok|err)\s+([0-9]{1,19})(?:\s*[x×]\s*([0-9]{1,4}))?\s*")
+_ATTEMPT = re.compile(r"(.*\S)\s++(ok|err)\s++([0-9]{1,19})(?:\s*+[x×]\s*+([0-9]{1,4}))?")
 _AN_ATTEMPT = "write 40 err 503 or 35ms ok 200, and x3 for three"
 
 
@@ -31,14 +32,14 @@ class Names:
     """Names that a plan allows, made from any texts. No name is returned twice. `taken` are those in use."""
 
     def __init__(self, notes):
-        self.notes, self.taken = notes, set()
+        self.notes, self.taken, self.numbers = notes, set(), {}
 
     def clean(self, said, place):
         """The name of a text."""
         plain = re.sub(r"[^A-Za-z0-9._-]+", "-", said).strip("-")[:LONGEST_NAME] or "job"
-        name, number = plain, 1
+        name, number = plain, self.numbers.get(plain, 1)
         while name in self.taken:
-            number += 1
+            number = self.numbers[plain] = number + 1
             name = f"{plain[:LONGEST_NAME - 1 - len(str(number))]}-{number}"
         self.taken.add(name)
         if name != said:
@@ -65,10 +66,12 @@ def duration(value, notes=None):
 
 def _entries_in_words(value, notes):
     """The entries of a script as `40 err 503 x3, 35 ok 200`."""
+    if len(value.data) > LONGEST:
+        raise FaultAt(Cause(value.at, 1, f"this script has more than {LONGEST} characters"))
     found, begin = [], 0
     for part in value.data.split(","):
         at, size = value.part(begin, begin + len(part))
-        words = _ATTEMPT.fullmatch(part)
+        words = _ATTEMPT.fullmatch(part.strip())
         length = words and exact_milliseconds(words[1])
         if length is None:
             raise FaultAt(Cause(at, size, f'"{shown(part.strip())}" is not an attempt', _AN_ATTEMPT))

@@ -1,14 +1,17 @@
 """Serves a page on this machine. You type schedules and what their attempts do, and see the picture and the report, or
 the fault with its place. It is docs/play.html, with reports by zsched. It loads and sends nothing elsewhere.
 
+  zsched-play
   zsched-play --port 0 --json
   zsched-play --html play.html --title 'Policies of checkout'
 
 The page of --html needs no server and no program: its reports are by its own evaluator. The page draws the pictures, so
 there is no --svg: zsched-try and zsched-report have one."""
 import bisect
+import contextlib
 import html
 import http.server
+import io
 import itertools
 import json
 import re
@@ -17,21 +20,28 @@ import signal
 import subprocess
 import sys
 import tempfile
+import threading
+import time
 import urllib.parse
+from dataclasses import replace
 
 from zsched_tools import bounding, command, faults, hints, plan_size, program
+from zsched_tools.words import one_line
 
 ADDRESS = "127.0.0.1"
 PORT = 8642
-SECONDS = 10
-MEMORY = 1 << 30
+# The programs that run at a time, and the seconds and bytes that each may take.
+RUNS, SECONDS, MEMORY = 2, 10, 1 << 30
 SMALLER = "shorten the horizon, or lengthen the waits"
 LONGEST_BODY = program.MAX_BYTES
 LONGEST_REPORT = 8_000_000
 MOST_ATTEMPTS = 10**8
 LONGEST_SHOWN = 200_000
+# A fault of a longer plan is shown without its place, which takes 2 s for each MB.
+LONGEST_PLACED = 1_000_000
+# The seconds in which a request must be read, wait for its turn, and take its response.
 PATIENCE = 30
-POLICY = ("default-src 'none'; script-src 'unsafe-inline'; style-src 'unsafe-inline'; img-src data:; "
+POLICY = ("default-src 'none'; script-src {}; style-src 'unsafe-inline'; img-src data:; "
           "connect-src 'self'; base-uri 'none'; form-action 'none'; frame-ancestors 'none'")
 PATHS = {"/": ["GET", "HEAD"], "/report": ["POST"]}
 
@@ -39,62 +49,109 @@ PATHS = {"/": ["GET", "HEAD"], "/report": ["POST"]}
 def page(title="", engine="program"):
     """docs/play.html with a title, and with zsched in place of the page's evaluator."""
     found = hints.page().replace('data-engine="page"', f'data-engine="{engine}"', 1)
-    return re.sub("(?<=<title>).*?(?=</title>)", lambda it: html.escape(title) or it[0], found, count=1)
+    return re.sub("(?<=<title>).*?(?=</title>)", lambda it: html.escape(one_line(title)) or it[0], found, count=1)
 
 
-def run(zsched, plan, seconds):
-    """Runs the program on a plan: its status, the report's beginning, the report's size, and its standard error. If it
-    takes longer it is killed, and subprocess.TimeoutExpired is raised."""
-    with tempfile.TemporaryFile() as report:
-        words = {"stdin": subprocess.PIPE, "stdout": report, "stderr": subprocess.PIPE}
-        with subprocess.Popen([zsched], **words) as child:
-            resource.prlimit(child.pid, resource.RLIMIT_AS, (MEMORY, MEMORY))
-            try:
-                _, errors = child.communicate(plan, timeout=seconds)
-            except subprocess.TimeoutExpired:
-                child.kill()
-                raise
-        size = report.seek(0, 2)
-        report.seek(0)
-        return child.returncode, report.read(LONGEST_REPORT + 1), size, errors
+def policy(text):
+    """What a browser may do with a page: run the scripts that it has, and no other."""
+    return POLICY.format(hints.script_sources(text) or "'none'")
 
 
-def every_input(bounds, asked):
-    """The bounds by this zsched-bounds of the policies, at most two, that a page asks for, with its driver, and whether
-    the program was proved. A policy is a schedule and two percentages of its waits, or none. If the program fails, the
-    report is shown without bounds."""
+class Programs:
+    """The programs that run for the page: some at a time, each in limited time and memory."""
+
+    def __init__(self, zsched, bounds=None, seconds=SECONDS):
+        self.zsched, self.bounds, self.seconds = zsched, bounds, seconds
+        self.turns, self.lock, self.running = threading.BoundedSemaphore(RUNS), threading.Lock(), set()
+
+    @contextlib.contextmanager
+    def turn(self):
+        """Waits until fewer than RUNS others have their turn; raises TimeoutError if that takes too long."""
+        if not self.turns.acquire(timeout=PATIENCE):
+            raise TimeoutError(f"other plans took more than {PATIENCE} seconds; try again")
+        try:
+            yield
+        finally:
+            self.turns.release()
+
+    def run(self, path, given, options=()):
+        """Runs a program on some bytes: its status, the output's beginning, its standard error, and the output's size.
+        If it takes longer it is killed, and subprocess.TimeoutExpired is raised."""
+        with tempfile.TemporaryFile() as output:
+            with self.lock:
+                child = subprocess.Popen([path, *options], stdin=subprocess.PIPE, stdout=output, stderr=subprocess.PIPE)
+                self.running.add(child)
+            with child:
+                try:
+                    resource.prlimit(child.pid, resource.RLIMIT_AS, (MEMORY, MEMORY))
+                    _, errors = child.communicate(given, timeout=self.seconds)
+                except subprocess.TimeoutExpired:
+                    child.kill()
+                    raise
+                finally:
+                    self.running.discard(child)
+            size = output.seek(0, 2)
+            output.seek(0)
+            return child.returncode, output.read(LONGEST_REPORT + 1), errors, size
+
+    def end(self):
+        """Kills what runs, and lets nothing start after it."""
+        self.lock.acquire()
+        for child in (rest := [*self.running]):
+            child.kill()
+        for child in rest:
+            child.wait()
+
+
+def every_input(programs, asked):
+    """The bounds of the policies, at most two, that a page asks for, with its driver, and whether zsched-bounds was
+    proved. A policy is a schedule, two percentages of its waits, the longest time that is added to each, the durations
+    of its attempts and the limit of its call, or none. If the program fails, the report is shown without bounds."""
+    def run(*words, **more):
+        return programs.run(*words, **more)[:3]
+
+    def line(schedule, least, most, more, attempt, call):
+        driver = bounding.Driver(attempt[1] and tuple(attempt), *read["waits"][2:]).with_late(more)
+        [found] = bounding.run(path, [schedule], driver, (least, most), run)
+        return replace(found, limit=call).line()
+    path = programs.bounds
     try:
         read = json.loads(asked)
-        least, most = read["attempt"]
-        driver = bounding.Driver(most and (least, most), *read["waits"][2:])
-        found = [it and bounding.run(bounds, [it[0]], driver, it[1:], SECONDS)[0].line()
-                 for it in read["policies"][:2]] if bounds else []
-        return {"bounds": found, "proved": bool(bounds) and program.is_proved(bounds)}
+        found = [it and line(*it) for it in read["policies"][:2]] if path else []
+        return {"bounds": found, "proved": bool(path) and program.is_proved(path)}
     except (OSError, ValueError, LookupError, TypeError, RecursionError, subprocess.TimeoutExpired):
         return {"bounds": []}
 
 
-def answer(zsched, plan, seconds, bounds=None, asked=""):
+def answer(programs, plan, asked=""):
     """What the page shows for the bytes of a plan: the report and what holds for every input, or the fault."""
+    try:
+        with programs.turn():
+            return reported(programs, plan, asked)
+    except subprocess.TimeoutExpired:
+        cause = f"no report within {programs.seconds} seconds, so zsched was stopped"
+        return {"fault": {"field": "until", "cause": cause, "help": SMALLER}}
+    except TimeoutError as fault:
+        return {"fault": {"cause": str(fault)}}
+    except OSError as fault:
+        return {"fault": {"cause": f"{programs.zsched} could not be run: {fault.strerror or fault}"}}
+
+
+def reported(programs, plan, asked):
+    """The same, by the programs."""
     if many := plan_size.warning(plan, MOST_ATTEMPTS):
         return {"fault": {"field": "until", "cause": many, "help": SMALLER}}
-    try:
-        status, report, size, errors = run(zsched, plan, seconds)
-        if status == 0 and size <= LONGEST_REPORT:
-            program.check_report(zsched, report)
-    except subprocess.TimeoutExpired:
-        cause = f"no report within {seconds} seconds, so zsched was stopped"
-        return {"fault": {"field": "until", "cause": cause, "help": SMALLER}}
-    except OSError as fault:
-        return {"fault": {"cause": f"{zsched} could not be run: {fault.strerror or fault}"}}
+    status, report, errors, size = programs.run(programs.zsched, plan)
+    if status == 0 and size <= LONGEST_REPORT:
+        program.check_report(programs.zsched, report)
     said = errors.decode(errors="replace").strip().removeprefix("zsched: ")
     if status == 2:
-        return {"fault": placed(plan, said)}
+        return {"fault": placed(plan, said) if len(plan) <= LONGEST_PLACED else {"cause": said}}
     if status:
         first = said.partition("\n")[0] or f"status {status} and no report"
         cause = f"{first} ({MEMORY >> 20} MB are given to it)"
         return {"fault": {"field": "until", "cause": cause, "help": SMALLER}}
-    return {**shown(report, size), **every_input(bounds, asked)}
+    return {**shown(report, size), **every_input(programs, asked)}
 
 
 def placed(plan, said):
@@ -119,28 +176,52 @@ def shown(report, size):
 
 
 class Server(http.server.ThreadingHTTPServer):
-    """Serves the page on this machine only. The server waits for its runs before it ends."""
-    daemon_threads = False
+    """Serves the page on this machine only. When it ends, it kills its runs, and waits for no connection."""
 
-    def __init__(self, port, zsched, seconds, bounds=None, title=""):
+    def __init__(self, port, programs, title=""):
+        self.programs, self.page = programs, page(title)
+        self.policy = policy(self.page)
         super().__init__((ADDRESS, port), Handler)
-        self.zsched, self.bounds, self.seconds, self.title = zsched, bounds, seconds, title
         names = [ADDRESS, "localhost"]
         self.hosts = [f"{name}:{self.server_port}" for name in names] + (names if self.server_port == 80 else [])
+        self.origins = [f"http://{it}" for it in self.hosts]
+
+    def server_close(self):
+        super().server_close()
+        self.programs.end()
 
     def handle_error(self, request, client_address):
-        """Ignores a browser that closed its connection; any other fault is reported in one line."""
+        """Ignores a connection that was closed; any other fault is reported in one line."""
         fault = sys.exc_info()[1]
-        if not isinstance(fault, (ConnectionError, TimeoutError)):
+        if not isinstance(fault, OSError):
             print(f"zsched-play: a request failed: {fault!r}", file=sys.stderr)
 
     def url(self):
         return f"http://{ADDRESS}:{self.server_port}/"
 
 
+class Timed(io.RawIOBase):
+    """What a client sends. It raises TimeoutError after PATIENCE seconds in all."""
+
+    def __init__(self, connection):
+        self.connection, self.end = connection, time.monotonic() + PATIENCE
+
+    def readable(self):
+        return True
+
+    def readinto(self, buffer):
+        if (rest := self.end - time.monotonic()) <= 0:
+            raise TimeoutError
+        self.connection.settimeout(rest)
+        return self.connection.recv_into(buffer)
+
+
 class Handler(http.server.BaseHTTPRequestHandler):
     """One request. A request that doesn't come from the page is rejected, with the reason."""
-    timeout = PATIENCE
+
+    def setup(self):
+        super().setup()
+        self.rfile = io.BufferedReader(Timed(self.connection))
 
     def version_string(self):
         """The name of the server in the responses."""
@@ -149,7 +230,7 @@ class Handler(http.server.BaseHTTPRequestHandler):
     def refusal(self):
         """The status and the text if the request is rejected, else None."""
         methods, is_post = PATHS.get(self.path.split("?")[0]), self.command == "POST"
-        host, origin = self.headers.get_all("Host", []), self.headers.get("Origin")
+        host, origin = self.headers.get_all("Host", []), self.headers.get_all("Origin", [])
         size = self.headers.get("Content-Length")
         is_number = re.fullmatch("[0-9]{1,18}", size or "")
         return next((said for is_wrong, *said in [
@@ -158,7 +239,7 @@ class Handler(http.server.BaseHTTPRequestHandler):
             (methods is None, 404, "not found; the page is at /"),
             (self.command not in (methods or ()), 405,
              f"this method isn't allowed; allowed: {' and '.join(methods or ())}"),
-            (origin is not None and origin.lower().removeprefix("http://") not in self.server.hosts, 403,
+            (len(origin) > 1 or any(it.lower() not in self.server.origins for it in origin), 403,
              "requests from pages of another origin aren't allowed"),
             (is_post and (size is None or "Transfer-Encoding" in self.headers), 411,
              "a plan needs its length in Content-Length"),
@@ -172,20 +253,26 @@ class Handler(http.server.BaseHTTPRequestHandler):
             self.give(refusal[0], "text/plain; charset=utf-8", f"zsched-play: {refusal[1]}\n".encode())
             self.drop_body()
         elif self.command == "POST":
-            plan, it = self.rfile.read(int(self.headers["Content-Length"])), self.server
+            plan = self.rfile.read(int(self.headers["Content-Length"]))
             asked = urllib.parse.unquote(self.path.partition("?")[2])
-            found = answer(it.zsched, plan, it.seconds, it.bounds, asked)
-            self.give(200, "application/json", json.dumps(found).encode())
+            self.give(200, "application/json", json.dumps(answer(self.server.programs, plan, asked)).encode())
         else:
-            self.give(200, "text/html; charset=utf-8", page(self.server.title).encode())
+            self.give(200, "text/html; charset=utf-8", self.server.page.encode())
 
     do_HEAD = do_POST = do_PUT = do_DELETE = do_PATCH = do_OPTIONS = do_TRACE = do_CONNECT = do_GET
 
+    def send_error(self, code, message=None, explain=None):
+        """An error that the class above finds, as all others are sent."""
+        self.give(code, "text/plain; charset=utf-8", f"zsched-play: {message or explain}\n".encode(errors="replace"))
+
     def give(self, status, kind, body):
+        self.connection.settimeout(PATIENCE)
+        # For an older one no head would be sent.
+        self.request_version = self.protocol_version
         self.send_response(status)
         self.send_header("Content-Type", kind)
         self.send_header("Content-Length", str(len(body)))
-        self.send_header("Content-Security-Policy", POLICY)
+        self.send_header("Content-Security-Policy", self.server.policy)
         self.send_header("X-Content-Type-Options", "nosniff")
         self.send_header("Referrer-Policy", "no-referrer")
         self.send_header("Cache-Control", "no-store")
@@ -211,20 +298,20 @@ class Handler(http.server.BaseHTTPRequestHandler):
 def serve(given):
     if given.html:
         return command.write(given.html, page(given.title, "page"))
-    zsched, bounds = program.find(given.zsched), program.find_bounds(given.bounds)
+    programs = Programs(program.find(given.zsched), program.find_bounds(given.bounds))
     try:
-        server = Server(given.port, zsched, SECONDS, bounds, given.title)
+        server = Server(given.port, programs, given.title)
     except OSError as fault:
         raise command.Refused(f"port {given.port}: {fault.strerror}") from fault
     with server:
         try:
             signal.signal(signal.SIGTERM, signal.default_int_handler)
-            paint, found = command.Paint(given.color, sys.stdout), {"zsched": zsched, "bounds": bounds}
-            print(json.dumps({"url": server.url()} | found) if given.json else
-                  f"zsched-play: {paint('strong', server.url())}", flush=True)
+            paint = command.Paint(given.color, sys.stdout)
+            found = {"url": server.url(), "zsched": programs.zsched, "bounds": programs.bounds}
+            print(json.dumps(found) if given.json else f"zsched-play: {paint('strong', server.url())}", flush=True)
             server.serve_forever()
         except KeyboardInterrupt:
-            pass
+            signal.signal(signal.SIGINT, signal.SIG_IGN)
 
 
 def arguments():

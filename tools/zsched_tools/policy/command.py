@@ -1,23 +1,17 @@
-"""The command zsched-policy: prints the retry policies of a config as schedules, and says what differs between two
-policies, over the same attempts and for every input."""
-import itertools
+"""The command zsched-policy: the policies of configs, as schedules, as code and in words, checked and compared."""
 import json
 import sys
 
-from zsched_tools import bounding, command, program
-from zsched_tools.command import NO, REFUSED, Paint, Refused
-from zsched_tools.drawn import Policy
-from zsched_tools.place import FaultAt, tell_policy
-from zsched_tools.policy import libraries, python_source, reading, services
+from zsched_tools import bounding, checks, command, program
+from zsched_tools.attempts import add_attempts, add_driver, count, driver_of, time
+from zsched_tools.command import NO, REFUSED, Paint, Refused, note
+from zsched_tools.drawn import HIGH, Policy, policies_of
+from zsched_tools.place import Cause, FaultAt, tell_policy
+from zsched_tools.policy import checking, comparing, configs, exporting, limits, saying, showing
 from zsched_tools.policy.explaining import explained
-from zsched_tools.policy.reading import Wrong
-from zsched_tools.policy.spelling import drawn, spelled
-from zsched_tools.policy.telling import canonical, told_apart
-from zsched_tools.program import LAST_MOMENT
-from zsched_tools.reports import attempts_in, blocks_of
-from zsched_tools.trials import as_object, tried_in
-from zsched_tools.trying.command import add_attempts, bounds_of_all, driver_of, entries_of, of_all, tried
-from zsched_tools.words import duration, listed, plural, shown
+from zsched_tools.policy.vocabulary import WORDS
+from zsched_tools.settings import add_allowed
+from zsched_tools.words import shown
 
 TOOL = "zsched-policy"
 DESCRIPTION = """Finds the retry policies in the config of another program, and prints each as a schedule.
@@ -31,22 +25,30 @@ Says what differs between two policies, and what one does.
   zsched-policy explain '(exponential(100) && recurs(5))'"""
 IMPORT = """Finds the retry policies in FILE, and prints a line of JSON for each.
 
+  zsched-policy import service.yaml
+
   grpc          a gRPC service config (JSON): methodConfig with a retryPolicy
   envoy         a route's or a virtual host's retry_policy (YAML, JSON)
   istio         the retries of a VirtualService (YAML)
   temporal      a RetryPolicy, or the options of an activity (JSON, YAML)
-  kubernetes    a Job or a CronJob (YAML)
+  kubernetes    a Job or a CronJob, and probes of containers (YAML)
+  stepfunctions the retriers of a state machine of AWS (JSON, YAML)
   resilience4j  resilience4j.retry (YAML, properties), or calls of IntervalFunction (Java, Kotlin; never run)
   spring        settings of Spring Retry, or Spring Boot's retries (YAML, properties)
   gateway       Retry filters of Spring Cloud Gateway (YAML, properties)
   polly         RetryStrategyOptions of Polly 8 (JSON)
   aws           an AWS config (INI), AWS_MAX_ATTEMPTS and AWS_RETRY_MODE (lines of NAME=VALUE), or botocore's
                 Config(retries=..) (Python source)
+  celery        @app.task, @shared_task and classes of Task (Python source)
   tenacity      @retry, Retrying and AsyncRetrying (Python source, which is never run)
   backoff       @on_exception and @on_predicate (Python source)
+  urllib3       Retry, also that of requests (Python source)
+  zio           schedules of ZIO 2 (Scala source, which is never run); docs/RECIPES.md has the tables for all three
+  effect        schedules of Effect (TypeScript source)
+  cats          policies of cats-retry (Scala source)
 
-The end of the file's name says what it is (.json, .yaml, .yml, .properties, .py, .java, .kt, .ini, .env), or else its
-text does.
+The end of the file's name says what it is (.json, .yaml, .yml, .properties, .py, .java, .kt, .scala, .ts, .ini,
+.env), or else its text does.
 A line has these keys:
 
   name, format        of the policy
@@ -54,9 +56,13 @@ A line has these keys:
   attempt_timeout_ms  the limit of one attempt, or null
   deadline_ms         the limit of the whole call, or null
   drawn               the policy with its random waits, as zsched-try takes it, or null
-  retries_on          the errors that are retried, if the config names them
+  retries_on          the errors that are retried, as "503", "5xx" or "UNAVAILABLE"; none is all
+  asked_ms            the longest wait that is honoured if a service asks for it, or null
+  budget              a budget of retries, as zsched-outage has it, or null
+  parallel            the number of attempts that run side by side, or null
   jitter              null, or the range of random waits; the schedule has the greatest value of each
-  left_out            each setting that isn't carried over
+  left_out            the other settings, each with its whole value
+  mode                retry or repeat, if a source says which
 
 The jitter's kind: full, from 0 to the wait; proportional, a middle value and `percent` of it below or above; added, a
 least value and up to `up_to_ms`, or up to `percent` of it, above; decorrelated, by Polly's formula; mixed, a sum of
@@ -82,13 +88,20 @@ every input, which zsched-bounds proves.
 If neither the attempts nor the limits differ, some thousand short histories are searched for one that tells A and B
 apart: inputs and durations at and beside each number of both texts.
 
-A and B are schedules, or texts that zsched-try takes, as @FILE#NAME and `spaced(1000) jitter full`."""
-DIFF_EPILOG = """Exit status: 0 if the canonical spelling, jitter and limit of an attempt are equal, and so is what both
-leave out; 1 if not; 2 if a policy or an option is wrong, or if there is no zsched; 3 if a program or writing fails."""
+A and B are schedules, or texts that zsched-try takes, as @FILE#NAME and `spaced(1000) jitter full`.
 
-EXPLAIN = """Says what a policy does, a line for each part, and which parts never act.
+Two files or two folders are compared policy by policy, those of one name, and of a folder those of one path:
+
+  zsched-policy diff before.yaml after.yaml
+  zsched-policy diff ../main/services services"""
+DIFF_EPILOG = """Exit status: 0 if the canonical spelling, jitter and each setting are equal, also those that are left
+out, with their whole values; 1 if not, or if only one of two files or folders has a policy; 2 if a policy, a file or an
+option is wrong, or if there is no zsched; 3 if a program or writing fails."""
+
+EXPLAIN = """Says what a policy does, a line for each part, and which parts never act; or what a word of policies does.
 
   $ zsched-policy explain '(exponential(100) && recurs(5)).whileOutput(_1 < 10000)'
+  up to 5 retries after 100 ms to 1.6 s; at most 6 attempts
   (exponential(100, 2) && recurs(5)).whileOutput(_1 < 10000)
   for every input: 6 attempts, always; waits of at most 1.6 s, 3.1 s in all
 
@@ -97,197 +110,180 @@ EXPLAIN = """Says what a policy does, a line for each part, and which parts neve
       exponential(100, 2)   again after 100 ms, 200 ms, 400 ms ..
       recurs(5)             again at once, 5 times
 
-A part never acts if it changes no moment and no end, whatever the inputs and durations. That follows from limits that
-zsched-bounds proves: here six attempts are both the least with the test and the most without it. Without zsched-bounds
-the parts alone are explained."""
+A part never acts if it changes no moment and no end, whatever the inputs, durations and draws; `as a whole` says that
+the parts below it go with it. That follows from limits that zsched-bounds proves: here six attempts are both the least
+with the test and the most without it. Without zsched-bounds the parts alone are explained.
+
+  zsched-policy explain resetWhen"""
+CHECK = """Checks all policies of a repository, each for every input: those of each file that git has in a FOLDER, in
+all formats that `import` knows, and those of each FILE.
+
+  zsched-policy check --require-end 30s --attempt 5s
+
+Prints a line for each policy, and how many files were read and left out. Of a folder a file is read if its name ends as
+that of a config or a source, and its text has a key, a call or an import that `import` knows; without git all such
+files are. Limits are in .zsched.toml, beside or above all places:
+
+  leave_out = ["testdata/*"]        files that aren't read; * fits slashes too
+
+  [[limits]]                        of all policies
+  attempts = 6                      the most attempts
+  end = "30s"                       of the whole call; attempts take up to `attempt`, or their own limit
+  attempt = "5s"
+
+  [[limits]]                        of those with this path and this name, whose limits replace those before
+  path = "payments/*"
+  name = "checkout"
+  wait = "1s"                       the longest wait
+  waits = "3s"                      all waits together
+  load = { clients = 1000, within = "10s", attempts = 3000 }
+  by_call_limit = true              accept an end that is the call's own limit
+  allow_left_out = ["DelayGenerator"]
+
+  [[layers]]                        each attempt of one is a whole call of the next
+  names = ["checkout", "mesh.yaml#ratings"]
+  attempts = 36                     a product, which isn't proved
+  by_product = true                 accept it
+  end = "1min"
+
+  [[ignore]]
+  path = "legacy/*"
+  reason = "goes in May"
+
+What fits nothing in .zsched.toml is an error, if its folder is checked as a whole."""
+CHECK_EPILOG = """Exit status: 0; 1 if a policy breaks a limit or it isn't proved, if a file or a policy that looks like
+one can't be read, if a part of .zsched.toml fits nothing, or if there is no policy or no limit; 2 if .zsched.toml or
+an option is wrong, or if a program isn't there; 3 if a program, reading or writing fails. In a run of GitHub's actions
+each finding is an annotation too."""
+EXPORT = """Writes a policy as code.
+
+  $ zsched-policy export '(exponential(100) && recurs(5)) jitter 20%' --to zio
+  import zio._
+
+  val policy = (Schedule.exponential(100.millis) && Schedule.recurs(5)).jittered
+
+What the library can't say is an error at its place. A rule that is this project's own is noted in the code."""
 EXPLAIN_EPILOG = """Exit status: 0; 2 if the policy or an option is wrong, or if there is no zsched; 3 if a program or
 writing fails."""
 
 
-def _by(one, other, more, less, name=""):
-    """A difference in one of two forms, of things with a name or of time; nothing if there is none."""
-    words = plural(abs(other - one), name) if name else duration(abs(other - one))
-    return (more if other > one else less).format(words) if other != one else ""
-
-
-def _here(one, other):
-    """How the second result differs from the first one."""
-    ends = [f"{it.how} {it.result}".strip() for it in (one, other)]
-    parts = [_by(one.attempts, other.attempts, "makes {} more", "makes {} fewer", "attempt"),
-             _by(one.waited, other.waited, "waits {} more", "waits {} less"),
-             _by(one.longest, other.longest, *map("has a longest wait that is {{}} {}".format, ["longer", "shorter"])),
-             _by(one.at, other.at, "ends {} later", "ends {} earlier"),
-             f"ends as {ends[1]}" if ends[0] != ends[1] else ""]
-    parts = list(filter(None, parts))
-    return f"here B {listed(parts)}" if parts else ""
-
-
-def _first(blocks):
-    for number, (one, other) in enumerate(itertools.zip_longest(*map(attempts_in, blocks)), 1):
-        if one is None or other is None:
-            name, begin = ("A", one) if other is None else ("B", other)
-            yield f"the first difference: only {name} makes attempt {number}, at {duration(int(begin[0]))}"
-        elif one != other:
-            place, verb = (0, "begins") if one[0] != other[0] or not one[1] or not other[1] else (1, "ends")
-            yield (f"the first difference: attempt {number} {verb} at {duration(int(one[place]))}, and in B at "
-                   f"{duration(int(other[place]))}")
-
-
-def _limit(one, other, what, more, less, name=""):
-    if None not in (one, other) or one == other:
-        return _by(one or 0, other or 0, more, less, name)
-    known = one if other is None else other
-    words = plural(known, name) if name else bounding.rounded(known)
-    return f"no limit of {what} (A: {words})" if other is None else f"a limit of {what} ({words})"
-
-
-def _always(scope, one, other):
-    """How the bounds of the second policy differ from those of the first one, in lines."""
-    if other.most is not None and other.most < one.least or one.most is not None and one.most < other.least:
-        yield f"{scope} B makes {'fewer' if other.least < one.least else 'more'} attempts than A"
-    waits, totals = zip(*((None, None) if it.is_cut else it.limits() for it in (one, other)))
-    least = ["no end" if it.is_endless else f"at least {plural(it.least, 'attempt')}" for it in (one, other)]
-    limits = ["{1} (A: {0})".format(*least) if least[0] != least[1] else "",
-              _limit(one.most, other.most, "attempts", "{} more", "{} fewer", "attempt"),
-              _limit(*waits, "each wait", "a wait that is {} longer", "a wait that is {} shorter"),
-              _limit(*totals, "all waits", "{} more of waits in all", "{} less of waits in all"),
-              _limit(*(it.call() for it in (one, other)), "the whole call", "an end that is {} later",
-                     "an end that is {} earlier")]
-    if any(limits):
-        yield f"the limits of B {scope}: {listed(list(filter(None, limits)))}"
-
-
-def _settings(one, other):
-    """How policies differ beside their schedules, in lines."""
-    for what, limits in [("an attempt", (one.timeout, other.timeout)), ("the call", (one.deadline, other.deadline))]:
-        if limits[0] != limits[1]:
-            words = [duration(it) if it else "none" for it in limits]
-            yield f"the limit of {what}: {words[0]} in A, {words[1]} in B"
-    for name, mine, others in [("A", one, other), ("B", other, one)]:
-        yield from (f"only {name} leaves out {what}" for what in mine.left_out if what not in others.left_out)
-
-
-def _diff(given):
-    given.policies = [given.policies, given.other]
-    if (report := tried("zsched-policy", given)) is None:
-        return REFUSED
-    found, bounds = list(tried_in(report)), bounds_of_all(given)
-    lines = list(_differences(given, report, found, bounds))
-    if given.json:
-        print(json.dumps({**dict(zip("ab", map(as_object, given.read, found, bounds))), "differences": lines}))
-        return NO if lines else 0
-    for name, policy, result, bound in zip("AB", given.read, found, bounds):
-        every = f"\n   {bounding.mark(bound)}{of_all(given, policy)}: {bound.line()}" if bound else ""
-        print(f"{name}  {policy.text}\n   {result.line()}{every}")
-    print("\n".join(lines) or "no difference")
-    return NO if lines else 0
-
-
-def _differences(given, report, found, bounds):
-    """What differs between two policies, in lines."""
-    scope = of_all(given, *given.read)
-    lines = [*filter(None, [_here(*found)]), *itertools.islice(_first(blocks_of(report)), 1),
-             *([] if None in bounds else map(bounding.mark(*bounds).__add__, _always(scope, *bounds)))]
-    if not lines and len(set(map(canonical, given.read))) > 1:
-        first, limits = entries_of(given, given.read[0])[0], driver_of(given, given.read[0]).attempt or (1, LAST_MOMENT)
-        lines = told_apart(program.find(given.zsched), given.read, given.mode, first, limits, given.seed)
-    return [*lines, *_settings(*given.read)]
-
-
 def _explain(given):
-    """Prints a policy in words; returns the status."""
+    """Prints a policy in words, or each of a file, or a word with an example; returns the status."""
     zsched = program.find(given.zsched)
+    if given.policy in WORDS:
+        line, given.policy = WORDS[given.policy]
+        print(line, f"for example {given.policy}", "", sep="\n")
     try:
-        policy = Policy(given.policy, zsched)
-        policy.check(zsched)
-        policy.show(TOOL)
-        for line in explained(policy, program.find_bounds(given.bounds)):
-            print(line)
+        for number, policy in enumerate(policies_of(given.policy, zsched, is_undrawn_allowed=True)):
+            policy.check(zsched)
+            policy.show(TOOL, "bound")
+            if number:
+                print()
+            path, driver = program.find_bounds(given.bounds), driver_of(given, policy)
+            bounds = bounding.of_policies(path, [policy], [driver]) if path else None
+            if bounds:
+                print(*saying.each(zsched, [policy], bounds))
+            print(*explained(policy, path, driver, *bounds or ()), sep="\n")
     except FaultAt as fault:
         tell_policy(f"{TOOL}: ", given.policy, fault.cause, Paint(given.color, sys.stderr))
         return REFUSED
     return 0
 
 
-def _found(path):
-    text = reading.read_text(path)
-    kind = reading.kind_of(path, text)
-    if kind == "python":
-        return sorted(python_source.find(text), key=lambda it: it.line)
-    if kind == "java":
-        return list(libraries.find_java(text))
-    if kind == "ini":
-        return list(services.find_aws(reading.read_ini(text)))
-    reader = {"json": reading.read_json, "properties": reading.read_properties}.get(kind)
-    documents = reading.read_yaml(text) if reader is None else [reader(text)]
-    return [it for document in documents for finder in (services.find, libraries.find) for it in finder(document)]
-
-
-def policies_of(path):
-    """All policies of a file, each with a name that no other one has."""
-    named, used = [], {}
-    try:
-        for policy in _found(path):
-            name = shown(policy.name, 200)
-            used[name] = used.get(name, 0) + 1
-            named.append(policy._replace(name=name if used[name] == 1 else f"{name}-{used[name]}"))
-    except Wrong as wrong:
-        raise Refused(f"{path}:{wrong.args[0]}: {wrong.args[1]}") from None
-    return named
-
-
-def names_of(policies):
-    names = listed([it.name for it in policies[:20]])
-    return f"it has {names}" if names else f"{TOOL} import --help lists the formats"
-
-
-def line_of_file(path, name):
-    """The line of the policy of a file with this name; without a name the file has one policy, with any names."""
-    policies = policies_of(path)
-    chosen = [it for it in policies if name in (None, it.name)]
-    if not chosen or any(it.read is not chosen[0].read for it in chosen):
-        what = "more than one policy, write @FILE#NAME" if chosen else f"no policy {shown(name or '')}".rstrip()
-        raise Refused(f"{path}: {what}; {names_of(policies)}")
-    return _line_at(path, chosen[0])
-
-
-def _line_at(path, found):
-    """The line of a policy of a file, or its error."""
-    try:
-        return line_of(found)
-    except (Wrong, ValueError) as wrong:
-        line, what = wrong.args if isinstance(wrong, Wrong) else (found.line, wrong)
-        raise Refused(f"{path}:{line}: {found.name}: {what}") from None
-
-
-def line_of(found):
-    """The line of a policy, as a dict."""
-    policy = found.read()
-    schedule, left_out = spelled(policy.waits, policy.retries, policy.limit)
-    return {"name": found.name, "format": found.form, "schedule": schedule,
-            "attempt_timeout_ms": None if policy.attempt_timeout is None else max(1, int(policy.attempt_timeout)),
-            "deadline_ms": int(policy.deadline) if policy.deadline else None, "drawn": drawn(policy, schedule),
-            "retries_on": list(policy.retries_on), "jitter": policy.jitter, "left_out": [*policy.left_out, *left_out]}
-
-
 def _import(given):
     """Prints the policies of a file; returns the status."""
-    policies = policies_of(given.file)
+    with command.budget(given.file):
+        return _import_within(given)
+
+
+def _import_within(given):
+    policies = configs.policies_of(given.file)
     chosen = [it for it in policies if given.name in (None, it.name)]
     if not chosen:
         name = f" {shown(given.name)}" if given.name is not None else ""
-        print(f"{TOOL}: {given.file}: no policy{name}; {names_of(policies)}", file=sys.stderr)
+        print(f"{TOOL}: {given.file}: no policy{name}; {configs.names_of(policies)}", file=sys.stderr)
         return command.NO
     status = 0
     for found in chosen:
         try:
-            line = _line_at(given.file, found)
-            print(line["schedule"] if given.plain else json.dumps(line, ensure_ascii=False, separators=(",", ":")))
+            policy = configs.read(given.file, found)
+            line = configs.members(found, policy)
+            print(policy.waits if given.plain else json.dumps(line, ensure_ascii=False, separators=(",", ":")))
         except Refused as refused:
             sys.stdout.flush()
             print(f"{TOOL}: {refused}", file=sys.stderr)
             status = command.REFUSED
     return status
+
+
+def _check(given):
+    """Checks all policies of folders and files; returns the status."""
+    path = given.config or limits.find(given.places)
+    config = limits.read(path) if path else limits.Config(".")
+    given.zsched, found = program.find(given.zsched), program.find_bounds(given.bounds)
+    if found is None:
+        raise Refused("check needs zsched-bounds, which is neither built (./run builds it) nor installed; --bounds "
+                      "PATH or ZSCHED_BOUNDS names one")
+    asked = {it: getattr(given, f"require_{it}") for it in checks.LIMITS}
+    asked |= {"attempt": given.attempt, "by_call_limit": given.allow_unproved or None}
+    given.bounds, given.limits = found, {key: it for key, it in asked.items() if it is not None}
+    check = checking.Check(config, given)
+    check.walk(given.places)
+    check.prove()
+    check.finish()
+    if given.sarif:
+        command.write(given.sarif, showing.sarif(check))
+    if given.json:
+        print(json.dumps(showing.as_object(check)))
+    elif given.sarif != "-":
+        showing.show(check, given)
+        showing.annotate(check)
+    return NO if check.wrong() else 0
+
+
+def _export(given):
+    """Prints a policy as code; returns the status."""
+    zsched = program.find(given.zsched)
+    try:
+        policy = Policy(given.policy, zsched)
+        Policy("".join(it.spelled for it in policy.pieces if it.draw != ""), zsched).check(zsched)
+        policy.show(TOOL, "export")
+        random = next((it for it in policy.pieces if it.draw and it.share is None), None)
+        if random is not None:
+            raise FaultAt(Cause(policy.begin + random.at, random.size, "random numbers can't be written there"))
+        try:
+            code, notes = exporting.TARGETS[given.to](policy.name or "policy", "".join(
+                it.spelled for it in policy.pieces))
+        except FaultAt as fault:
+            raise FaultAt(policy.cause_at(HIGH, fault.cause) if not policy.is_drawn and not policy.begin
+                          else Cause(0, len(given.policy), fault.cause.what)) from None
+    except FaultAt as fault:
+        tell_policy(f"{TOOL}: ", given.policy, fault.cause, Paint(given.color, sys.stderr))
+        return REFUSED
+    for it in notes:
+        note(it, TOOL)
+    sys.stdout.writelines([code])
+    return 0
+
+
+def _add_check(forms):
+    """Adds the form `check` to the command's."""
+    given = forms.add_parser("check", description=CHECK, epilog=CHECK_EPILOG, help="the policies of a repository")
+    given.add_argument("places", metavar="FOLDER|FILE", nargs="*", default=["."], help="where they are (.)")
+    given.add_argument("--config", metavar="FILE", help="the limits (.zsched.toml of the folder, or of one above)")
+    for name, read, words in [
+            ("attempts", count(2**63 - 1), "the most attempts"), ("wait", time(0), "the longest wait"),
+            ("waits", time(0), "the most of all waits"), ("end", time(0), "the latest end of a call")]:
+        given.add_argument(f"--require-{name}", type=read, metavar="N" if name == "attempts" else "TIME",
+                           help=f"{words} of each policy, whatever .zsched.toml says")
+    given.add_argument("--attempt", type=time(1), metavar="TIME", help="the longest duration of an attempt")
+    given.add_argument("--allow-unproved", action="store_true",
+                       help="accept what a zsched-bounds says that ./run built unproved, and ends by a call's limit")
+    add_allowed(given)
+    given.add_argument("--json", action="store_true", help="print one object")
+    given.add_argument("--sarif", metavar="FILE", help="write the findings as SARIF; - is standard output")
+    command.add_programs(given, True)
+    given.set_defaults(work=_check)
 
 
 def _arguments():
@@ -297,16 +293,23 @@ def _arguments():
     given.add_argument("--name", metavar="NAME", help="only the policy with this name")
     given.add_argument("--plain", action="store_true", help="only the schedule of each policy")
     given.set_defaults(work=_import)
+    _add_check(forms)
     given = forms.add_parser("diff", description=ABOUT, epilog=DIFF_EPILOG, help="what differs between two policies")
-    given.add_argument("policies", metavar="A", help="a schedule")
+    given.add_argument("policies", metavar="A", help="a schedule, a file or a folder")
     given.add_argument("other", metavar="B", help="another one")
     add_attempts(given)
     given.add_argument("--json", action="store_true", help="print one object")
-    given.set_defaults(work=_diff)
+    given.set_defaults(work=comparing.compared)
     given = forms.add_parser("explain", description=EXPLAIN, epilog=EXPLAIN_EPILOG, help="a policy in words")
-    given.add_argument("policy", metavar="POLICY", help="a schedule, or a text that zsched-try takes")
+    given.add_argument("policy", metavar="POLICY", help="a schedule, a text that zsched-try takes, or a word of one")
+    add_driver(given)
     command.add_programs(given, True)
     given.set_defaults(work=_explain)
+    given = forms.add_parser("export", description=EXPORT, epilog=EXPLAIN_EPILOG, help="a policy as code")
+    given.add_argument("policy", metavar="POLICY", help="a schedule, or a text that zsched-try takes")
+    given.add_argument("--to", required=True, choices=list(exporting.TARGETS), help="the library")
+    command.add_programs(given)
+    given.set_defaults(work=_export)
     return parser
 
 

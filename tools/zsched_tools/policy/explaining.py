@@ -1,10 +1,12 @@
 """What a policy does, in words: a line for each part of its term, and which parts never act, by zsched-bounds."""
 import itertools
 import re
+from dataclasses import replace
 from typing import NamedTuple
 
 from zsched_tools import bounding, schedule_rules
 from zsched_tools.drawn import HIGH, every
+from zsched_tools.settings import WORDS, value_text
 from zsched_tools.words import duration, plural
 
 _COUNT, _INPUT = ("the number of retries", False), ("the value or error code", False)
@@ -24,16 +26,18 @@ class Term(NamedTuple):
     out: tuple
     parts: tuple = ()
 
-    def all(self, depth=0, is_read=False, is_early=False):
-        """Each part with its depth, whether another one reads its output, and whether it may be stepped before its own
-        next moment: then nothing is known of its `elapsed`."""
-        yield self, depth, is_read, is_early and "elapsed" in self.text
+    def all(self, depth=0, is_read=False, is_below=False):
+        """Each part with its depth, whether another one reads its output, and whether it is below `||`: there it may be
+        stepped before its own next moment, and after it was done."""
+        yield self, depth, is_read, is_below
         reads = is_read or re.match(r"\.(whileOutput|resetWhen|map|collectAll)", self.word) is not None
         for part in self.parts:
-            yield from part.all(depth + 1, reads, is_early or self.word == "||")
+            yield from part.all(depth + 1, reads, is_below or self.word == "||")
 
-    def never_waits(self):
-        return not re.search("spaced|fixed|windowed|exponential|fibonacci|linear", self.text)
+    def never_waits(self, longer):
+        """Whether it always continues at once, if times are added to the waits of these schedules."""
+        return not re.search("spaced|fixed|windowed|exponential|fibonacci|linear", self.text) and not any(
+            it in self.text for it in longer)
 
 
 def _leaf(piece):
@@ -47,8 +51,9 @@ def _leaf(piece):
     does = {"recurs": f"again at once, {plural(first, 'time')}", "spaced": f"again after {duration(first)}",
             "windowed": f"again at the next multiple of {duration(first)} since the first attempt ended"}
     does["fixed"] = f"{does['windowed']}, at once if it is late"
+    does |= dict.fromkeys(["forever", "identity", "elapsed"], "again at once, without end")
     out = {"identity": _INPUT, "elapsed": ("the time since the first attempt ended", True)}.get(word, _COUNT)
-    return Term(shown, shown, does.get(word, "again at once, without end"), out)
+    return Term(shown, shown, does[word], out)
 
 
 def _joined(operator, *parts):
@@ -74,47 +79,73 @@ def _behind(piece, part):
     return Term(part.text + word, word, f"{does} {what} is {_COMPARED[words[-2]]}{number}", part.out, (part,))
 
 
-def _never_acts(term, is_early, found):
-    """The numbers of the parts of a term of which bounds show that they never act; -1 is its own test."""
+def _folded(text): return schedule_rules.folded(text, _leaf, _joined, _behind)
+
+
+def _stays_done(text):
+    """Whether a schedule that was done is done at each step after: what its tests read never falls, and has limits."""
+    return not re.search(r"whileInput|resetWhen|(?<!<)=|[!>]|(identity|merge).*whileOutput", text)
+
+
+def _never_acts(term, is_below, found, longer):
+    """The numbers of the parts of a term of which bounds show that they never act; -1 is its own test. Bounds say when
+    a part is done first, if it isn't stepped before its next moment. Then its `elapsed` is known."""
     bounds = [found[it.text] for it in (*term.parts, term)]
-    if term.word.startswith(".while") and not is_early and bounds[1].least == bounds[0].most:
+    is_known = "elapsed" not in term.text or not is_below and term.word != "||"
+    if term.word.startswith(".while") and is_known and bounds[1].least == bounds[0].most and (
+            not is_below or _stays_done(term.parts[0].text)):
         yield -1
     for number in (0, 1) if len(term.parts) == 2 else ():
-        part, (mine, other) = term.parts[number], (bounds[number], bounds[1 - number])
-        if "elapsed" in term.text and (is_early or term.word == "||"):
-            continue
-        if term.word == "&&" and part.never_waits() and (
-                mine.is_endless or other.most is not None and mine.least >= other.most):
-            yield number
-        if term.word == "||" and term.parts[1 - number].never_waits() and (
-                other.is_endless or mine.most is not None and mine.most <= other.least):
-            yield number
-        if term.word == "andThenEither" and number == 1 and other.is_endless:
+        (part, rest), (mine, other) = term.parts[::1 - 2 * number], (bounds[number], bounds[1 - number])
+        is_last = is_known and other.most is not None and mine.least >= other.most and (
+            not is_below or _stays_done(rest.text))
+        is_first = is_known and mine.most is not None and mine.most <= other.least and _stays_done(part.text)
+        if (term.word == "&&" and part.never_waits(longer) and (mine.is_endless or is_last)
+                or term.word == "||" and rest.never_waits(longer) and (other.is_endless or is_first)
+                or term.word == "andThenEither" and number == 1 and other.is_endless):
             yield number
 
 
-def idle_parts(term, path):
-    """The parts that never act, each with the part around it: a test is its own."""
-    found = dict.fromkeys(it.text for it, *_ in term.all())
-    found = dict(zip(found, bounding.run(path, found)))
-    for it, _, is_read, is_early in term.all():
-        for number in itertools.islice(_never_acts(it, is_early, found), 1):
+def _is_drawn_otherwise(piece):
+    """Whether a piece isn't the schedule whose waits are drawn, but a form that has draws."""
+    return piece.draw and re.match("rand|decorrelated", piece.spelled)
+
+
+def term_of(policy):
+    """The term of a policy, with the greatest draws of what isn't a schedule of its own."""
+    text = "".join(it.draw(HIGH(0), None) if _is_drawn_otherwise(it) else "" if it.draw == "" else it.spelled
+                   for it in policy.pieces)
+    return _folded(text)
+
+
+def idle_parts(policy, term, path):
+    """The parts that never act, each with the part around it: a test is its own. Where nothing is known of a policy but
+    its form, or a part whose waits are drawn could begin again after it was done, that says what has no end."""
+    found, driven = dict.fromkeys(it.text for it, *_ in term.all()), policy.driven()
+    bounds = bounding.run(path, found, waits=driven[1] if driven else (100, 100))
+    jittered = [] if policy.is_whole else [it for it in policy.pieces if it.draw and not _is_drawn_otherwise(it)]
+    if driven is None or policy.is_cut or "||" in term.text and not all(_stays_done(it.spelled) for it in jittered):
+        bounds = [replace(it, least=1, most=None) for it in bounds]
+    found, longer = dict(zip(found, bounds)), [_folded(it.spelled).text for it in jittered if it.more]
+    for it, _, is_read, is_below in term.all():
+        for number in itertools.islice(_never_acts(it, is_below, found, longer), 1):
             if number < 0 or not is_read or it.word == "andThenEither":
                 yield it if number < 0 else it.parts[number], it
 
 
-def explained(policy, path):
-    """The lines of a policy that the program has read; with the path of zsched-bounds also what never acts."""
-    text = "".join(it.spelled if it.draw is None or it.draw and not re.match("rand|jitter", it.spelled) else
-                   it.draw and it.draw(HIGH(0), None) for it in policy.pieces)
-    term = schedule_rules.folded(text, _leaf, _joined, _behind)
+def explained(policy, path, driver=None, bounds=None):
+    """The lines of a policy that the program has read; with the path of zsched-bounds also what never acts, and its
+    bounds with what runs it."""
+    term = term_of(policy)
     yield term.text
     yield from (f"each wait is drawn:{it.spelled}" for it in policy.pieces if it.draw == "")
+    yield from (f"{what}: {value_text(word, value)}" for word, (name, what) in WORDS.items()
+                if (value := getattr(policy, name)))
     if path is not None:
-        yield f"{every([policy])}: {bounding.of_policies(path, [policy], [bounding.Driver()])[0].line()}"
-    idle = [part for part, _ in idle_parts(term, path)] if path is not None else []
+        yield f"{bounding.mark(bounds)}{every([policy])}{driver.words()}: {bounds.line()}"
+    idle = [(it, it is not around and it.parts) for it, around in idle_parts(policy, term, path)] if path else []
     widest = max(2 * depth + len(it.word) for it, depth, *_ in term.all())
     yield ""
     for it, depth, *_ in term.all():
-        never = ": never acts" if any(part is it for part in idle) else ""
-        yield f"{'  ' * depth + it.word:{widest}}  {it.does}{never}"
+        never = [": never acts as a whole" if is_whole else ": never acts" for part, is_whole in idle if part is it]
+        yield f"{'  ' * depth + it.word:{widest}}  {it.does}{max(never, default='', key=len)}"

@@ -5,7 +5,9 @@ from typing import Callable, NamedTuple
 
 from zsched_tools.durations import UNITS, exact_milliseconds
 from zsched_tools.hints import TABLE
-from zsched_tools.policy.reading import Wrong
+from zsched_tools.policy.reading import Node, Table, Wrong, plain
+from zsched_tools.policy.spelling import drawn, spelled
+from zsched_tools.settings import ERRORS, Policy
 from zsched_tools.words import shown
 
 DAY = 86_400_000
@@ -14,50 +16,71 @@ _SPAN = re.compile(r"(?:([0-9]{1,8})\.)?([0-9]{1,2}):([0-9]{1,2})(?::([0-9]{1,2}
 _SIGNED = re.compile(rf"[+-]?{_NUMBER}(?:[eE][+-]?[0-9]{{1,2}})?")
 
 
-class Policy(NamedTuple):
-    """A policy: its waits, the number of retries (None: without an end), what isn't carried over, the time limit of an
-    attempt in milliseconds, the errors that are retried, the range of random waits, the time limit of all waits, that
-    of the whole call, and how it draws if the range doesn't say so: Draws, or a text of the tools."""
-    waits: object
-    retries: int | None
-    left_out: list
-    attempt_timeout: Fraction | None = None
-    retries_on: tuple = ()
-    jitter: dict | None = None
-    limit: int | None = None
-    deadline: Fraction | None = None
-    draws: object = None
+def made(waits, retries, left_out, jitter=None, limit=None, draws=None, **settings):
+    """The Policy of some waits, or of the text of a whole schedule, a number of retries (None: without an end), a time
+    limit of all waits, and how it draws if the range of its jitter doesn't say so: Draws, or a text of the tools. A
+    setting that is 0 is none."""
+    schedule, more = spelled(waits, retries, limit)
+    settings = {name: max(1, int(it)) if isinstance(it, Fraction) else it for name, it in settings.items() if it}
+    text = drawn(jitter or {}, draws, schedule, waits, retries, limit)
+    left_out = {**left_out, **more, **({"jitter": jitter} if jitter and text is None else {})}
+    return Policy(schedule, text, jitter, left_out=left_out, **settings)
 
 
 class Found(NamedTuple):
-    """A policy of a file before it is read. `read` returns the Policy, or raises Wrong."""
+    """A policy of a file before it is read, with its place, from 1. `read` returns the Policy, or raises Wrong."""
     form: str
     name: str
     line: int
     read: Callable[[], Policy]
+    column: int = 1
+
+    @classmethod
+    def at(cls, form, name, node, read):
+        """What was found at a node."""
+        return cls(form, name, node.line, read, node.column)
 
 
 def default(job, setting, read=int):
     """A default of another program, in milliseconds if it is a time: from the table that docs/POLICIES.md has too."""
     text = next(text for name, text, _ in TABLE["policies"][job] if name.strip("`") == setting)
+    if read is texts:
+        return text.strip("`").split(",")
     exact = exact_milliseconds(text)
     return read(exact if exact is not None else Fraction(re.match("[0-9.]+", text)[0]))
 
 
-def plain(name):
-    """A name without its style: maxAttempts, max_attempts and max-attempts are equal."""
-    return re.sub("[-_]", "", name).lower()
+def _table(node):
+    if node is None or not node.is_table():
+        return Table()
+    return node.data if isinstance(node.data, Table) else Table(node.data)
+
+
+def _plain_names(node):
+    return _table(node).plain
 
 
 def keys_of(node):
     """The plain names of a table's keys."""
-    return {plain(name) for name in node.data} if node is not None and node.is_table() else set()
+    return _plain_names(node).keys()
 
 
 def part(node, *names):
     """The value of the first key of a table that has one of these names, or None."""
-    items = node.data.items() if node is not None and node.is_table() else ()
-    return next((found for name, found in items if plain(name) in names and found.data is not None), None)
+    known = _plain_names(node)
+    return min((known[name] for name in names if name in known and known[name][1]), default=(0, None))[1]
+
+
+def timeouts(node):
+    """The settings of a table whose names end with timeout."""
+    return Fields(Node(_table(node).timeouts, node.line))
+
+
+def value_of(node):
+    """A value as Python has it."""
+    if node.is_table():
+        return {name: value_of(it) for name, it in node.data.items()}
+    return [value_of(it) for it in node.data] if isinstance(node.data, list) else node.data
 
 
 def text_of(node):
@@ -85,9 +108,14 @@ class Fields:
         node = self.take(*names)
         return default if node is None else read(node, **more)
 
-    def left_out(self):
-        """The names of the settings that weren't taken."""
-        return list(self.left.values())
+    def classes(self, *names):
+        """The settings of these names, whose kinds of errors have no numbers, as one that is left out."""
+        found = {self.left[name]: self.get(value_of, name) for name in names if name in self.found}
+        return {ERRORS: found} if found else {}
+
+    def left_out(self, before=""):
+        """The settings that weren't taken, by their names, with their whole values."""
+        return {before + name: value_of(self.found[key]) for key, name in self.left.items()}
 
 
 def named(node):
@@ -116,6 +144,11 @@ def truth(node):
     if str(node.data).lower() not in ("true", "false"):
         raise Wrong(node.line, f"{named(node)} is neither true nor false")
     return node.data.lower() == "true"
+
+
+def items(node):
+    """The values of a list, or the only one."""
+    return node.data if isinstance(node.data, list) else [node]
 
 
 def texts(node):

@@ -1,6 +1,6 @@
 """Policies in the configuration of libraries: Resilience4j, Spring, Spring Cloud Gateway and Polly 8.
 
-docs/POLICIES.md has their defaults. No source was at hand: all this is from memory of it and of its documents.
+docs/POLICIES.md has their defaults. All this is from memory, not checked.
 
 - Resilience4j 2.2 (IntervalFunction): exponential: each wait is the one before it times the multiplier (1.5), as a
   double, cut to whole milliseconds; then at most exponentialMaxWaitDuration. Randomized: drawn from wait * (1 - f) to
@@ -9,23 +9,34 @@ docs/POLICIES.md has their defaults. No source was at hand: all this is from mem
   whole milliseconds, until one is above the cap, which all later ones are. Random: times 1 to the multiplier, at most
   the cap. max-retries (Spring 7) counts retries.
 - Spring Cloud Gateway 4.1 (RetryGatewayFilterFactory): each wait is the one before it times the factor, at most
-  maxBackoff; without backoff there are no waits.
+  maxBackoff; without backoff there are no waits. It retries server errors; without exceptions those of input, output
+  and time.
 - Polly 8.4 (RetryHelper): UseJitter: 25 % above or below, then at most MaxDelay; for Exponential decorrelated: the n-th
   wait, from 0, is (f(n + u) - f of the wait before) / 1.4 of the delay, with f(t) = 2^t * tanh(sqrt(4t)) and u drawn
-  from 0 to 1. 2147483647 retries are no limit. The options of .NET's standard HTTP handler have other defaults."""
+  from 0 to 1. 2147483647 retries are no limit.
+- .NET's standard HTTP handler (Microsoft.Extensions.Http.Resilience 8): other defaults, limits of an attempt and of the
+  call; it retries 408, 429, 5xx and what has no response."""
+import bisect
 import functools
 import itertools
 import math
 import re
 from fractions import Fraction
+from http import HTTPStatus
 
-from zsched_tools.policy.fields import (DAY, Fields, Found, Policy, default, duration, keys_of, number, part, plain,
-                                        text_of, texts, truth, whole)
+from zsched_tools.policy.fields import (DAY, Fields, Found, default, duration, items, keys_of, made, named, number,
+                                        part, plain, text_of, texts, truth, value_of, whole)
 from zsched_tools.policy.reading import Node, Wrong, unfolded
 from zsched_tools.policy.services import label, tables
 from zsched_tools.policy.spelling import (GREATEST, Draws, Waits, constant, decorrelated, exponential, growing,
                                           linear)
+from zsched_tools.settings import ERRORS, codes_of, listed_codes
 
+# Of Java: a comment, a call, the name to which a statement assigns, and its number of attempts.
+_COMMENT = re.compile(r"//[^\n]*+|/\*(?:[^*]|\*(?!/))*+(?:\*/|\Z)")
+_CALL = re.compile(r"\bIntervalFunction\s*+\.\s*+(of\w*+)\s*+\(((?:[^()]++|\([^()]*+\))*)\)")
+_NAMED = re.compile(r"\b(\w++)\s*+=[^=]")
+_COUNTED = re.compile(r"\bmaxAttempts\s*+\(\s*+([0-9]++)\s*+\)")
 # The defaults of Spring Boot's keys: attempts, first wait, multiplier, cap.
 SPRING = {"spring.rabbitmq": (3, 1000, 1, 10_000), "spring.kafka": (3, 1000, 0, 30_000),
           "spring.cloud.config": (6, 1000, Fraction(11, 10), 2000), "spring.cloud.stream": (3, 1000, 2, 10_000)}
@@ -44,27 +55,27 @@ def find(document):
     for group, prefix in [(part(retry, "configs"), "configs."), (part(retry, "instances", "backends"), "")]:
         for name, node in group.data.items() if group is not None and group.is_table() else ():
             read = functools.partial(_resilience, node, part(retry, "configs"))
-            yield Found("resilience4j", prefix + name, node.line, read)
+            yield Found.at("resilience4j", prefix + name, node, read)
     for path in tables(root, (("", root),)):
         node, keys = path[-1][1], keys_of(path[-1][1])
         names, around = ".".join(str(key) for key, _ in path[1:]), path[-2][1] if len(path) > 1 else Node({}, 1)
         filters = part(node, "filters", "defaultfilters")
         for it in filters.data if filters is not None and isinstance(filters.data, list) else ():
             if (text_of(part(it, "name")) or str(text_of(it)).partition("=")[0].strip()) == "Retry":
-                yield Found("gateway", text_of(part(node, "id")) or "gateway", it.line, functools.partial(_gateway, it))
+                yield Found.at("gateway", text_of(part(node, "id")) or "gateway", it, functools.partial(_gateway, it))
         if "maxretryattempts" in keys or (keys & {"backofftype", "usejitter"} and keys & {"delay", "maxdelay"}):
-            yield Found("polly", label(path, "polly"), node.line, functools.partial(_polly, node, around))
+            yield Found.at("polly", label(path, "polly"), node, functools.partial(_polly, node, around))
         elif _is_spring(keys, keys_of(part(node, "backoff")), names.split(".")[-1]) and not (
                 names.startswith("resilience4j") or (plain(names).endswith(".backoff") and keys_of(around) & {*COUNT})):
-            yield Found("spring", names or "spring", node.line, functools.partial(_spring, node, names))
+            yield Found.at("spring", names or "spring", node, functools.partial(_spring, node, names))
 
 
 def _resilience(node, configs):
     tables_, base = [node], part(node, "baseconfig")
     while base is not None:
-        tables_.append(configs.data.get(base.data) if configs is not None and configs.is_table() else None)
-        if tables_[-1] is None or tables_[-1] in tables_[:-1]:
-            raise Wrong(base.line, f'there is no config "{base.data}" for this baseConfig')
+        tables_.append(configs.data.get(text_of(base)) if configs is not None and configs.is_table() else None)
+        if tables_[-1] is None or any(tables_[-1] is it for it in tables_[:-1]):
+            raise Wrong(base.line, f"there is no config {named(base)} for this baseConfig")
         base = part(tables_[-1], "baseconfig")
     fields = Fields(*tables_)
     fields.take("baseconfig")
@@ -80,16 +91,26 @@ def _resilience(node, configs):
     if factor < 1 or share >= 1:
         raise Wrong(node.line, "exponentialBackoffMultiplier must be at least 1, and randomizedWaitFactor below 1")
     waits = functools.partial(cut, int(first), factor, after=lambda wait: math.ceil(wait * (1 + share)))
-    on, most = fields.get(texts, "retryexceptions", default=[]), None if most is None else int(most)
+    most = None if most is None else int(most)
     draws = share and most is not None and _capped(waits, (1 - share) / (1 + share), most, retries)
-    return Policy(waits(most), retries, fields.left_out(), None, on, jitter, draws=draws or None)
+    return made(waits(most), retries, {**fields.classes("retryexceptions", "ignoreexceptions"), **fields.left_out()},
+                jitter, draws=draws or None)
+
+
+def statuses(words):
+    """The codes of statuses of HTTP, as 503, 5xx, SERVER_ERROR or BadGateway; and the words that name none."""
+    series = {"informational": "1xx", "successful": "2xx", "redirection": "3xx", "clienterror": "4xx",
+              "servererror": "5xx"}
+    names = series | {plain(it.name): str(it.value) for it in HTTPStatus}
+    found = {word: word if codes_of(word) else names.get(plain(word)) for word in words}
+    return listed_codes(filter(None, found.values())), [word for word, code in found.items() if code is None]
 
 
 def _capped(waits, least, most, retries):
     """The Draws of waits, which get the cap that the drawn ones have; None if no wait reaches it."""
     higher = waits(math.ceil(most / least))
     last = retries if retries is not None else higher.steady or 0
-    return Draws(higher, least, most) if any(higher.at(number) > most for number in (1, last)) else None
+    return Draws(higher, f"{least}..1", most) if any(higher.at(number) > most for number in (1, last)) else None
 
 
 def _short(value):
@@ -132,8 +153,7 @@ def _spring(node, names):
     is_random, jitter, draws = fields.get(truth, "random", "randombackoff"), None, None
     if str(getattr(fields.found.get("enabled"), "data", "")).lower() == "true":
         fields.take("enabled")
-    on = fields.get(texts, "retryfor", "include", "value", default=[])
-    left_out = ["enabled: false" if plain(name) == "enabled" else name for name in fields.left_out()]
+    left_out = {**fields.classes("retryfor", "include", "value", "noretryfor", "exclude"), **fields.left_out()}
     if factor > 0:
         most, factor = most if known or most > first else 30_000, max(factor, 1.0)
         waits = cut(first, factor, most)
@@ -144,9 +164,10 @@ def _spring(node, names):
                             1 / Fraction(str(factor)), most, retries)
     elif most > first and not known:
         waits, jitter = constant(most), {"kind": "added", "up_to_ms": most - first}
+        draws = Draws(constant(first), f"+0..{most - first}ms")
     else:
-        waits, left_out = constant(first), left_out + (["random"] if is_random else [])
-    return Policy(waits, retries, left_out, None, on, jitter, draws=draws)
+        waits, left_out = constant(first), left_out | ({"random": "true"} if is_random else {})
+    return made(waits, retries, left_out, jitter, draws=draws)
 
 
 def _gateway(node):
@@ -158,29 +179,39 @@ def _gateway(node):
     args = args if args is not None and args.is_table() else Node({}, node.line)
     back_off = part(args, "backoff")
     fields = Fields(args, *([back_off] if back_off is not None else []))
-    for name in ["backoff", "basedonpreviousvalue"]:
-        fields.take(name)
+    fields.take("backoff")
     has_waits, retries = back_off is not None or "firstbackoff" in fields.found, fields.get(whole, "retries", default=3)
     first, most = (fields.get(duration, name, default=usual, unit=1)
                    for name, usual in [("firstbackoff", 5), ("maxbackoff", None)])
     factor = fields.get(whole, "factor", default=2, least=1)
-    on = [*fields.get(texts, "statuses", default=[]), *fields.get(texts, "series", default=["SERVER_ERROR"])]
-    return Policy(exponential(first, factor, most) if has_waits else constant(0), retries, fields.left_out(), None, on)
+    words = [*fields.get(texts, "statuses", default=[]), *fields.get(texts, "series", default=["SERVER_ERROR"])]
+    on, unknown = statuses(words)
+    classes = fields.classes("exceptions")
+    # Without them, exceptions of input and output, and of time.
+    on = on if classes else listed_codes([*on, "0"])
+    if unknown:
+        raise Wrong(node.line, f'"{unknown[0]}" is not a status or a series of HTTP')
+    return made(exponential(first, factor, most) if has_waits else constant(0), retries,
+                {**classes, **fields.left_out()}, on=on)
 
 
 def find_java(text):
     """The calls of Resilience4j's IntervalFunction in a Java or Kotlin source, each with the maxAttempts beside it."""
-    text = re.sub(r"//[^\n]*|/\*.*?\*/", lambda it: re.sub(r"[^\n]", " ", it[0]), text, flags=re.S)
-    for found in re.finditer(r"\bIntervalFunction\s*\.\s*(of\w*)\s*\(((?:[^()]|\([^()]*\))*)\)", text):
-        begin = max(text.rfind(mark, 0, found.start()) for mark in ";{}") + 1
-        statement = re.compile(r"[^;{}]*").match(text, begin)[0]
-        name = re.search(r"(\w+)\s*=[^=]", statement[:found.start() - begin])
-        line = text.count("\n", 0, found.start()) + 1
-        yield Found("resilience4j", name[1] if name else found[1], line, functools.partial(
-            _interval_function, found[1], found[2].split(",") if found[2].strip() else [], statement, line))
+    text = _COMMENT.sub(lambda it: re.sub(r"[^\n]", " ", it[0]), text)
+    ends = [it.start() for it in re.finditer("\n", text)]
+    for whole in re.finditer(r"[^;{}]+", text):
+        statement = whole[0]
+        name, count = _NAMED.search(statement), _COUNTED.search(statement)
+        for found in _CALL.finditer(statement):
+            at = whole.start() + found.start()
+            line = bisect.bisect_left(ends, at) + 1
+            arguments = found[2].split(",") if found[2].strip() else []
+            yield Found("resilience4j", name[1] if name and name.end() <= found.start() else found[1], line,
+                        functools.partial(_interval_function, found[1], arguments, count and count[1], line),
+                        at - (ends[line - 2] if line > 1 else -1))
 
 
-def _interval_function(call, arguments, statement, line):
+def _interval_function(call, arguments, count, line):
     values = [_java(it.strip(), line) for it in arguments]
     wait, factor, most, share = ("waitDuration", "exponentialBackoffMultiplier", "exponentialMaxWaitDuration",
                                  "randomizedWaitFactor")
@@ -191,12 +222,12 @@ def _interval_function(call, arguments, statement, line):
         names = [wait, factor, most]
     if len(values) > len(names) or call[2:] not in ("", "Defaults") and not names:
         raise Wrong(line, f"IntervalFunction.{call} with {len(arguments)} arguments can't become a schedule")
-    found = re.search(r"\bmaxAttempts\s*\(\s*([0-9]+)\s*\)", statement)
-    table = dict(zip(names, [text for text, _ in values])) | ({"maxAttempts": found[1]} if found else {})
+    table = dict(zip(names, [text for text, _ in values])) | ({"maxAttempts": count} if count else {})
     table |= {"enableExponentialBackoff": "true"} if "Exponential" in call else {}
     table |= {"enableRandomizedWait": "true"} if "Random" in call else {}
     policy = _resilience(Node({name: Node(text, line) for name, text in table.items()}, line), None)
-    return policy if found else policy._replace(left_out=["maxAttempts: not beside the call, so its default"])
+    policy.left_out |= {} if count else {"maxAttempts": "not beside the call, so its default"}
+    return policy
 
 
 def _java(text, line):
@@ -204,7 +235,7 @@ def _java(text, line):
     if found := re.fullmatch(r"(?:java\.time\.)?Duration\.of(Millis|Seconds|Minutes|Hours)\(([0-9_]+)[lL]?\)", text):
         unit = {"Millis": "ms", "Seconds": "s", "Minutes": "min", "Hours": "h"}[found[1]]
         return found[2].replace("_", "") + unit, False
-    if found := re.fullmatch(r"([0-9_]*\.?[0-9_]+)([dDfFlL]?)", text):
+    if found := re.fullmatch(r"([0-9_]++(?:\.[0-9_]++)?|\.[0-9_]++)([dDfFlL]?)", text):
         return found[1].replace("_", ""), "." in text or found[2] in "dDfF" and found[2] != ""
     raise Wrong(line, f"{text} is not a number that can be known without running the source")
 
@@ -223,12 +254,18 @@ def _polly(node, around):
     if word not in kinds:
         raise Wrong(kind.line, f'"{word}" is not Constant, Linear or Exponential')
     is_random = fields.get(truth, "usejitter", default=is_http)
-    left_out, timeout = fields.left_out(), None
+    words = fields.get(items, "shouldhandle", default=None)
+    on, unknown = ((), []) if words is None else statuses([value_of(it) for it in words if text_of(it)])
+    if unknown or words and not on:
+        on, unknown = (), [value_of(it) for it in words]
+    on = listed_codes(["0", "408", "429", "5xx"]) if is_http and words is None else on
+    left_out = fields.left_out() | ({ERRORS: unknown} if unknown else {})
     if around is not None and around.is_table():
-        left_out += [name for name in around.data
-                     if plain(name) in ("circuitbreaker", "ratelimiter", "timeout", "hedging", "fallback")]
+        left_out |= {name: value_of(it) for name, it in around.data.items()
+                     if plain(name) in ("circuitbreaker", "ratelimiter", "timeout", "hedging", "fallback")}
     timeout, deadline = (part(part(around, name), "timeout") for name in ["attempttimeout", "totalrequesttimeout"])
-    timeout, deadline = (it and duration(it, DAY) for it in (timeout, deadline))
+    timeout, deadline = (duration(it, DAY) if it else Fraction(default(job, name)) if is_http else None
+                         for it, name in [(timeout, "AttemptTimeout"), (deadline, "TotalRequestTimeout")])
     jitter, draws = {"kind": "proportional", "percent": 25} if is_random else None, None
     greatest, retries = first * Fraction(5, 4) if is_random else first, None if retries == 2**31 - 1 else retries
     if word == "exponential" and is_random and first:
@@ -243,4 +280,4 @@ def _polly(node, around):
         waits = functools.partial(linear, greatest, greatest if word == "linear" else 0)
         draws = is_random and most is not None and _capped(waits, Fraction(3, 5), int(most), retries) or None
         waits = waits(most)
-    return Policy(waits, retries, left_out, timeout, (), jitter, None, deadline, draws)
+    return made(waits, retries, left_out, jitter, draws=draws, timeout=timeout, deadline=deadline, on=on)

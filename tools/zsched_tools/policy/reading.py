@@ -1,6 +1,7 @@
 """Files as trees of nodes, each with its line: JSON, YAML, properties, and INI or lines of NAME=VALUE."""
 import bisect
 import contextlib
+import functools
 import importlib
 import json
 import re
@@ -18,24 +19,54 @@ MOST_BYTES = 2_000_000
 MOST_VALUES = 200_000
 DEEPEST = 100
 DEBIAN = "/usr/lib/python3/dist-packages"
+# A line that a pattern reads has at most these letters, and so has the text of a policy.
+LONGEST = 1 << 16
 _PAIR = re.compile(r"((?:\\.|[^\\\s=:])+?)(\[[0-9]+\])?(?:\s*[=:]\s*|\s+|$)(.*)")
-_SECTION = re.compile(r"\s*\[\s*([^\]]*?)\s*\]\s*(?:[#;].*)?")
-_ASSIGNED = re.compile(r"(?:export\s+)?([A-Za-z_][\w.-]*)\s*=\s*(.*?)\s*(?:\s[#;].*)?")
-_KINDS = {"json": "json", "yaml": "yaml", "yml": "yaml", "properties": "properties", "py": "python", "ini": "ini",
-          "cfg": "ini", "env": "ini", "java": "java", "kt": "java"}
-_MARKS = {"python": r"^(?:import|from) \w|^\s*@\w", "ini": r"^\[(?:default|profile .*)\]|^(?:export\s+)?AWS_\w+\s*=",
-          "json": r"\A\s*[{[]", "properties": r"^[\w.\[\]-]+\.[\w.\[\]-]+\s*="}
+_SECTION = re.compile(r"\s*+\[([^\]]*+)\]\s*+(?:[#;].*)?")
+_ASSIGNED = re.compile(r"(?:export\s++)?([A-Za-z_][\w.-]*+)\s*+=\s*+(.*)")
+_COMMENT = re.compile(r"(?<!\s)\s++[#;].*")
+KINDS = {"json": "json", "yaml": "yaml", "yml": "yaml", "properties": "properties", "py": "python", "ini": "ini",
+         "cfg": "ini", "env": "ini", "java": "java", "kt": "java", "scala": "scala", "sc": "scala",
+         "ts": "typescript", "tsx": "typescript", "mts": "typescript"}
+_MARKS = {"python": r"^(?:import|from) \w|^[^\S\n]*+@\w",
+          "ini": r"^\[(?:default|profile .*)\]|^(?:export[^\S\n]++)?AWS_\w++[^\S\n]*+=", "json": r"\A\s*+[{[]",
+          "properties": r"^[\w.\[\]-][\w\[\]-]*+\.[\w.\[\]-]++[^\S\n]*+="}
 
 
 class Wrong(Exception):
     """A file can't be understood. The arguments are a line and what is wrong."""
 
 
+def plain(name):
+    """A name without its style: maxAttempts, max_attempts and max-attempts are equal."""
+    return re.sub("[-_]", "", name).lower()
+
+
+class Table(dict):
+    """A dict of nodes by their names, which is searched by plain names."""
+
+    @functools.cached_property
+    def plain(self):
+        """The place and the node of each plain name, the first that isn't null; a place alone if all are."""
+        found = {}
+        for place, (name, node) in enumerate(self.items()):
+            if found.get(key := plain(name), (0, None))[1] is None:
+                found[key] = place, None if node.data is None else node
+        return found
+
+    @functools.cached_property
+    def timeouts(self):
+        """Those of its items whose names end with timeout."""
+        return {name: node for name, node in self.items() if plain(name).endswith("timeout")}
+
+
 class Node(NamedTuple):
-    """A value: a dict of nodes, a list of nodes, the text of another value, or None. `size` is its number of values."""
+    """A value: a dict of nodes, a list of nodes, the text of another value, or None. `size` is its number of values,
+    `column` its place in the line, from 1."""
     data: object
     line: int
     size: int = 1
+    column: int = 1
 
     def is_table(self):
         return isinstance(self.data, dict)
@@ -52,12 +83,12 @@ def read_text(path):
         raise Wrong(data.count(b"\n", 0, fault.start) + 1, "the text is not UTF-8") from None
 
 
-def _sized(data, line):
+def _sized(data, line, column=1):
     """A table or a list with the number of its values."""
     size = 1 + sum(node.size for node in (data.values() if isinstance(data, dict) else data))
     if size > MOST_VALUES:
         raise Wrong(line, f"the file has more than {MOST_VALUES} values")
-    return Node(data, line, size)
+    return Node(Table(data) if isinstance(data, dict) else data, line, size, column)
 
 
 def _put(table, key, node, line):
@@ -80,16 +111,18 @@ def read_json(text):
 def _json_node(node, starts, depth):
     """The Node of a value of a document, whose lines start at these places."""
     line = bisect.bisect(starts, node.at)
+    column = node.at - starts[line - 1] + 1
     if depth > DEEPEST:
         raise Wrong(line, f"this is nested deeper than {DEEPEST}")
     if node.kind == "list":
-        return _sized([_json_node(it, starts, depth + 1) for it in node.items()], line)
+        return _sized([_json_node(it, starts, depth + 1) for it in node.items()], line, column)
     if node.kind != "object":
-        return Node(node.string() if node.kind == "text" else None if node.kind == "null" else node.source, line)
+        return Node(node.string() if node.kind == "text" else None if node.kind == "null" else node.source, line, 1,
+                    column)
     table = {}
     for name, value in node.members():
         _put(table, name.string(), _json_node(value, starts, depth + 1), bisect.bisect(starts, name.at))
-    return _sized(table, line)
+    return _sized(table, line, column)
 
 
 def documents(text, make, deepest, most):
@@ -166,7 +199,8 @@ class _Reader:
         for event in self._inner():
             at = event.start_mark.index
             if not isinstance(event, self.yaml.ScalarEvent):
-                _refuse(at, "this key is not a text")
+                is_template = event.start_mark.buffer[event.start_mark.pointer - 1:].startswith("{{")
+                _refuse(at, "this key is not a text", "render templates before, as helm template does" * is_template)
             name = event.value
             if name in lines and name != "<<":
                 _refuse(at, f'the key "{shown(name)}" is on line {lines[name]} too', "remove one of them", len(name))
@@ -194,27 +228,36 @@ def read_yaml(text):
 
 def _of_yaml(data, mark, kind):
     """A Node of its data, its mark, and the kind of a scalar."""
-    line = mark.line + 1
-    return _sized(data, line) if kind is None else Node(None if kind == "null" else data, line)
+    line, column = mark.line + 1, mark.column + 1
+    return _sized(data, line, column) if kind is None else Node(None if kind == "null" else data, line, 1, column)
 
 
 def read_properties(text):
     """The tree of a Java properties file. A dot in a key leads one level down; the items of a list, as name[0], are a
     text with commas."""
-    rows, before = {}, ""
-    for number, line in enumerate(text.split("\n"), 1):
-        line = before + line.strip()
-        if not line or line[0] in "#!":
-            continue
-        before = line[:-1] if re.search(r"(?<!\\)(?:\\\\)*\\$", line) else ""
-        if not before:
-            if not (found := _PAIR.fullmatch(line)):
+    rows, before = {}, []
+    for number, line in _lines(text):
+        before.append(line.strip())
+        if not before[0] or before[0][0] in "#!":
+            before = []
+        elif (len(before[-1]) - len(before[-1].rstrip("\\"))) % 2:
+            before[-1] = before[-1][:-1]
+        else:
+            if not (found := _PAIR.fullmatch("".join(before))):
                 raise Wrong(number, "not a property: write NAME = VALUE")
             key, is_item, value = found.groups()
-            place = key if is_item else (key, number)
-            items = [*rows[place][1].data.split(","), value.strip()] if place in rows else [value.strip()]
-            rows[place] = re.sub(r"\\(.)", r"\1", key).split(".")[:DEEPEST], Node(",".join(items), number)
-    return unfolded(rows.values())
+            path = re.sub(r"\\(.)", r"\1", key).split(".")[:DEEPEST]
+            rows.setdefault(key if is_item else (key, number), (path, number, []))[-1].append(value.strip())
+            before = []
+    return unfolded([(path, Node(",".join(items), number)) for path, number, items in rows.values()])
+
+
+def _lines(text):
+    """The lines of a text with their numbers, none of them too long for a pattern."""
+    for number, line in enumerate(text.split("\n"), 1):
+        if len(line) > LONGEST:
+            raise Wrong(number, f"this line has more than {LONGEST} characters")
+        yield number, line
 
 
 def unfolded(rows):
@@ -240,12 +283,12 @@ def read_ini(text):
     """The tree of an INI file: its sections, with their keys. Keys before the first section are those of "". Indented
     lines belong to the key before them, and are left out."""
     sections, here = {"": Node({}, 1)}, ""
-    for number, line in enumerate(text.split("\n"), 1):
+    for number, line in _lines(text):
         if found := _SECTION.fullmatch(line):
-            here = found[1]
+            here = found[1].strip()
             _put(sections, here, Node({}, number), number)
         elif (found := _ASSIGNED.fullmatch(line)) and not line[0].isspace():
-            _put(sections[here].data, found[1], Node(found[2].strip("\"'"), number), number)
+            _put(sections[here].data, found[1], Node(_COMMENT.sub("", found[2]).rstrip().strip("\"'"), number), number)
         elif line.strip() and line.strip()[0] not in "#;" and not line[0].isspace():
             raise Wrong(number, "not INI: write [section], or NAME = VALUE")
     return Node(sections, 1)
@@ -253,5 +296,5 @@ def read_ini(text):
 
 def kind_of(path, text):
     """What a file is by the end of its name, or else by its text: json, yaml, properties, python or ini."""
-    kind = _KINDS.get(path.rpartition(".")[2].lower())
+    kind = KINDS.get(path.rpartition(".")[2].lower())
     return kind or next((kind for kind, mark in _MARKS.items() if re.search(mark, text, re.M)), "yaml")

@@ -1,28 +1,43 @@
-"""Policies in the configuration of services: gRPC, Envoy, Istio, Temporal, Kubernetes and the AWS SDKs.
+"""Policies in the configuration of services: gRPC, Envoy, Istio, Temporal, Kubernetes, AWS Step Functions and SDKs.
 
-docs/POLICIES.md has their defaults and sources. By their documents unless it says otherwise:
+docs/POLICIES.md has their defaults. From memory, not checked, but for the AWS SDKs (tests/test_draws.py):
 
 - gRPC 1.64 (gRFC A6): the n-th wait is drawn 20 % above or below it. A maxAttempts above 5 counts as 5.
 - Envoy 1.30: the n-th wait is drawn from 0 to base * (2^n - 1), at most max_interval, which is ten times the base if it
   isn't set.
 - Temporal 1.24: maximumAttempts counts the first attempt, and 0 is no limit.
-- Kubernetes, a Job: from 1.27 or so on the source has a cap of 10 minutes (from memory).
-- AWS SDKs (botocore 1.43), legacy: drawn from 0 to 2^(n-1) s, 5 attempts. Without retry_mode its mode is legacy."""
+- Kubernetes, a Job: from 1.27 or so on there is a cap of 10 minutes. A probe begins periodSeconds after the one
+  before, and failureThreshold counts those that fail, one after another.
+- AWS Step Functions: the n-th wait of a retrier is IntervalSeconds * BackoffRate^(n-1), at most MaxDelaySeconds, and
+  with the JitterStrategy FULL drawn from 0. Each retrier of a state counts its own retries; TimeoutSeconds limits an
+  attempt.
+- The errors of Envoy's retry_on. An empty one retries what a request's header names.
+- Istio 1.22: its defaults, also of retryOn; the waits are Envoy's.
+- AWS SDKs (botocore 1.29): drawn from 0 to 2^(n-1) s; standard cuts that to 20 s, legacy has 5 attempts and is the mode
+  if none is set."""
 import functools
 import itertools
 from fractions import Fraction
 
 from zsched_tools.hints import TABLE
-from zsched_tools.policy.fields import (Fields, Found, Policy, default, duration, keys_of, named, number, part, plain,
-                                        text_of, texts, whole)
+from zsched_tools.policy.fields import (Fields, Found, default, duration, items, keys_of, made, named, number, part,
+                                        plain, text_of, texts, timeouts, value_of, whole)
 from zsched_tools.policy.reading import Node, Wrong
-from zsched_tools.policy.spelling import exponential, growing
+from zsched_tools.policy.spelling import Draws, exponential, growing
+from zsched_tools.settings import ERRORS, codes_of, listed_codes
 
 CODES = TABLE["grpc"]
+# The errors that the words of Envoy's retry_on name, 0 for no response; some name only a part of these.
+PARTS = ["connect-failure", "refused-stream", "reset-before-request", "http3-post-connect-failure"]
+RETRY_ON = {"5xx": "5xx 0", "gateway-error": "502 503 504 0", "reset": "0", "retriable-4xx": "409",
+            **dict.fromkeys(PARTS, "0"),
+            **{name.lower().replace("_", "-"): name for name in (
+                "CANCELLED", "DEADLINE_EXCEEDED", "INTERNAL", "RESOURCE_EXHAUSTED", "UNAVAILABLE")}}
 ENVOY = {"numretries", "retryon", "retrybackoff", "pertrytimeout", "ratelimitedretrybackoff", "retriablestatuscodes",
          "retriableheaders", "retryhostpredicate"}
 TEMPORAL = {"backoffcoefficient", "maximumattempts", "maximuminterval", "nonretryableerrortypes"}
 ACTIVITY = {"starttoclosetimeout", "scheduletoclosetimeout"}
+PROBES = ["livenessprobe", "readinessprobe", "startupprobe"]
 FULL = {"kind": "full"}
 
 
@@ -43,20 +58,25 @@ def find(root):
         for entry in entries.data if entries is not None and isinstance(entries.data, list) else []:
             if (found := part(entry, "retrypolicy", "hedgingpolicy")) is not None:
                 read = functools.partial(_grpc, found, entry, node)
-                yield from (Found("grpc", name, found.line, read) for name in _methods(entry))
+                yield from (Found.at("grpc", name, found, read) for name in _methods(entry))
         if keys_of(policy) & ENVOY:
-            yield Found("envoy", _envoy_name(path), policy.line, functools.partial(_envoy, policy, path))
+            yield Found.at("envoy", _envoy_name(path), policy, functools.partial(_envoy, policy, path))
         if key == "retries" and keys & {"attempts", "pertrytimeout", "retryon", "backoff"}:
             name = next(filter(None, (_name_of(it) for _, it in reversed(path[:-1]))), "istio")
-            yield Found("istio", name, node.line, functools.partial(_istio, node, around))
+            yield Found.at("istio", name, node, functools.partial(_istio, node, around))
         if keys & ACTIVITY:
             policy = part(node, "retrypolicy", "retry", "retryoptions") or Node({}, node.line)
-            yield Found("temporal", label(path, "temporal"), policy.line, functools.partial(_temporal, policy, node))
+            yield Found.at("temporal", label(path, "temporal"), policy, functools.partial(_temporal, policy, node))
         elif not keys_of(around) & ACTIVITY and (keys & TEMPORAL
                                                  or (keys, key) == ({"initialinterval"}, "retrypolicy")):
-            yield Found("temporal", label(path, "temporal"), node.line, functools.partial(_temporal, node, around))
+            yield Found.at("temporal", label(path, "temporal"), node, functools.partial(_temporal, node, around))
+        yield from _retriers(node, path)
+        for word in PROBES:
+            if (probe := part(node, word)) is not None and probe.is_table():
+                name = f"{label(path, 'container')}/{word.removesuffix('probe')}"
+                yield Found.at("kubernetes", name, probe, functools.partial(_probe, probe))
         if text_of(part(node, "kind")) in ("Job", "CronJob") and part(node, "spec") is not None:
-            yield Found("kubernetes", _name_of(node) or "job", node.line, functools.partial(_job, node))
+            yield Found.at("kubernetes", _name_of(node) or "job", node, functools.partial(_job, node))
 
 
 def _name_of(node):
@@ -104,13 +124,14 @@ def _grpc(policy, entry, config):
     count, first, most, factor = found.values()
     if count < 2:
         raise Wrong(policy.line, "maxAttempts must be at least 2")
-    timeout = fields.get(duration, "perattemptrecvtimeout")
-    more = [f"maxAttempts: {count} counts as 5"] if count > 5 else []
-    more += ["retryThrottling"] if part(config, "retrythrottling") is not None else []
+    timeout, deadline = fields.get(duration, "perattemptrecvtimeout"), around.get(duration, "timeout")
+    more, throttling = {"maxAttempts above 5": count} if count > 5 else {}, part(config, "retrythrottling")
+    tokens, ratio = (part(throttling, name) for name in ["maxtokens", "tokenratio"])
+    budget = throttling and {"like": "grpc", "tokens": tokens and whole(tokens), "ok": ratio and float(number(ratio))}
     waits = exponential(first * 6 / 5, factor, most * 6 / 5)
-    deadline = around.get(duration, "timeout")
-    return Policy(waits, min(count, 5) - 1, [*fields.left_out(), *around.left_out(), *more], timeout,
-                  [_code(it) for it in codes.data], {"kind": "proportional", "percent": 20}, None, deadline)
+    return made(waits, min(count, 5) - 1, {**fields.left_out(), **around.left_out(), **more},
+                {"kind": "proportional", "percent": 20}, timeout=timeout, deadline=deadline, budget=budget,
+                on=listed_codes(map(_code, codes.data)))
 
 
 def _envoy_name(path):
@@ -134,10 +155,25 @@ def _envoy_others(path):
     """The settings beside a policy that aren't carried over: those of its route, or of each route of its virtual host
     that has no other policy."""
     node, others = path[-1][1], ("timeout", "idletimeout", "hedgepolicy", "maxstreamduration")
-    yield from (name for name in node.data if plain(name) in others[1:])
+    found = {name: value_of(it) for name, it in node.data.items() if plain(name) in others[1:]}
     for it in tables(part(node, "routes") or Node({}, 1), path):
         if it != path and part(it[-1][1], "retrypolicy") is None and it[-1][0] == "route":
-            yield from (f"{_envoy_name(it)}: {name}" for name in it[-1][1].data if plain(name) in others)
+            found |= {f"{_envoy_name(it)}: {name}": value_of(value) for name, value in it[-1][1].data.items()
+                      if plain(name) in others}
+    return found
+
+
+def _envoy_errors(words, codes):
+    """The errors of the words of Envoy's retry_on, and the words that have none, or name a part of one."""
+    found, left_out = [], []
+    for word in words:
+        listed = codes if word == "retriable-status-codes" else RETRY_ON.get(word, word).split()
+        found += filter(codes_of, listed)
+        left_out += [word] if not any(map(codes_of, listed)) or word in PARTS else []
+    # The parts of what has no response, if another word names the whole.
+    if any("0" in RETRY_ON.get(it, "").split() and it not in PARTS for it in words):
+        left_out = [it for it in left_out if it not in PARTS]
+    return listed_codes(found), {ERRORS: left_out or "none is named"} if left_out or not words else {}
 
 
 def _envoy(policy, path):
@@ -149,26 +185,32 @@ def _envoy(policy, path):
         raise Wrong(back_off.line, "retry_back_off has no base_interval")
     retries = fields.take("numretries")
     retries = part(retries, "value") if retries is not None and retries.is_table() else retries
-    timeout, on = fields.get(duration, "pertrytimeout"), fields.get(texts, "retryon", default=[])
-    left_out = [*fields.left_out(), *(f"retry_back_off.{name}" for name in back_off.left_out())]
-    left_out += _envoy_others(path)
+    timeout, words = fields.get(duration, "pertrytimeout"), fields.get(texts, "retryon", default=[])
+    limited = Fields(fields.take("ratelimitedretrybackoff") or Node({}, 1))
+    asked = limited.get(duration, "maxinterval", default=None)
+    if limited.found and asked is None:
+        asked = Fraction(default("envoy", "rate_limited_retry_back_off.max_interval"))
+    on, errors = _envoy_errors(words, [str(whole(it)) for it in fields.get(items, "retriablestatuscodes", default=[])])
+    left_out = {**fields.left_out(), **back_off.left_out("retry_back_off."),
+                **limited.left_out("rate_limited_retry_back_off."), **_envoy_others(path), **errors}
     count = default("envoy", "num_retries") if retries is None else whole(retries)
     # That of all attempts together; 0 is none.
-    deadline = Fields(path[-1][1]).get(duration, "timeout")
-    return Policy(envoy_waits(base, most), count, left_out, timeout or None, on, FULL, None, deadline)
+    deadline = Fields(path[-1][1]).get(duration, "timeout", default=Fraction(default("envoy", "timeout")))
+    return made(envoy_waits(base, most), count, left_out, FULL, timeout=timeout, deadline=deadline, asked=asked, on=on)
 
 
 def _istio(retries, route):
     fields = Fields(retries)
     count, base = (fields.get(read, name, default=default("istio", name))
                    for read, name in [(whole, "attempts"), (duration, "backoff")])
-    timeout, on = fields.get(duration, "pertrytimeout"), fields.get(texts, "retryon", default=[])
-    deadline = Fields(route).get(duration, "timeout")
-    return Policy(envoy_waits(base, None), count, fields.left_out(), timeout or None, on, FULL, None, deadline)
+    timeout = fields.get(duration, "pertrytimeout")
+    on, errors = _envoy_errors(fields.get(texts, "retryon", default=default("istio", "retryOn", texts)), [])
+    return made(envoy_waits(base, None), count, {**fields.left_out(), **errors}, FULL, timeout=timeout, on=on,
+                deadline=Fields(route).get(duration, "timeout"))
 
 
 def _temporal(policy, around):
-    fields, beside = Fields(policy), Fields(around)
+    fields, beside = Fields(policy), timeouts(around)
     first, factor, times = (default("temporal-activity", it, Fraction)
                             for it in ["Initial Interval", "Backoff Coefficient", "Maximum Interval"])
     first = fields.get(duration, "initialinterval") or first
@@ -179,9 +221,9 @@ def _temporal(policy, around):
                     else "maximumInterval must be at least initialInterval")
     attempts = fields.get(whole, "maximumattempts", default=0)
     timeout, deadline = (beside.get(duration, f"{name}timeout") for name in ["starttoclose", "scheduletoclose"])
-    left_out = fields.left_out() + [name for name in beside.left_out() if plain(name).endswith("timeout")]
-    return Policy(exponential(first, factor, most), attempts - 1 if attempts else None, left_out, timeout or None, (),
-                  None, None, deadline)
+    left_out = {**fields.classes("nonretryableerrortypes"), **fields.left_out(), **beside.left_out()}
+    return made(exponential(first, factor, most), attempts - 1 if attempts else None, left_out, timeout=timeout,
+                deadline=deadline)
 
 
 def _job(node):
@@ -193,12 +235,59 @@ def _job(node):
     names = ["backoffLimit", "DefaultJobBackOff", "MaxJobBackOff"]
     retries, first, most = (default("kubernetes-job", name) for name in names)
     retries = fields.get(whole, "backofflimit", default=retries)
+    if retries >= 2**31:
+        raise Wrong(fields.found["backofflimit"].line, f"backoffLimit is more than {2**31 - 1}")
     deadline = 1000 * fields.get(whole, "activedeadlineseconds", default=0)
     pod = part(part(fields.take("template"), "spec"), "restartpolicy")
-    left_out = [name for name in fields.left_out() if plain(name) not in (
-        "selector", "manualselector", "ttlsecondsafterfinished", "managedby")]
-    left_out += ["restartPolicy: OnFailure restarts a container in its pod"] if text_of(pod) == "OnFailure" else []
-    return Policy(exponential(first, 2, most), retries, left_out, deadline=deadline)
+    parallel = fields.get(whole, "parallelism", default=1)
+    left_out = {name: it for name, it in fields.left_out().items() if plain(name) not in (
+        "selector", "manualselector", "ttlsecondsafterfinished", "managedby")}
+    left_out |= {"restartPolicy": "OnFailure"} if text_of(pod) == "OnFailure" else {}
+    return made(exponential(first, 2, most), retries, left_out, deadline=Fraction(deadline),
+                parallel=parallel if parallel != 1 else None)
+
+
+def _probe(node):
+    fields = Fields(node)
+    period, timeout, count, successes = (
+        fields.get(whole, plain(name), default=default("kubernetes-probe", name), least=1)
+        for name in ["periodSeconds", "timeoutSeconds", "failureThreshold", "successThreshold"])
+    period, timeout = (it if name in fields.found else it // 1000 for it, name in [
+        (period, "periodseconds"), (timeout, "timeoutseconds")])
+    for name in ("httpget", "exec", "tcpsocket", "grpc", "initialdelayseconds", "terminationgraceperiodseconds"):
+        fields.take(name)
+    more = {"successThreshold": successes} if successes != 1 else {}
+    return made(f"(fixed({period * 1000}) && recurs({count - 1}))", None, {**fields.left_out(), **more},
+                timeout=Fraction(timeout * 1000))
+
+
+def _retriers(node, path):
+    """The retriers of a state of AWS Step Functions."""
+    retriers = part(node, "retry")
+    found = [it for it in retriers.data if "errorequals" in keys_of(it)] if retriers is not None and isinstance(
+        retriers.data, list) else []
+    for it in found:
+        yield Found.at("stepfunctions", label(path, "state"), it, functools.partial(_retrier, it, node, len(found) - 1))
+
+
+def _retrier(node, state, others):
+    fields = Fields(node)
+    job, seconds = "step-functions", fields.get(whole, "intervalseconds", default=None, least=1)
+    first = default(job, "IntervalSeconds") if seconds is None else 1000 * seconds
+    retries = fields.get(whole, "maxattempts", default=default(job, "MaxAttempts"))
+    factor = fields.get(number, "backoffrate", default=default(job, "BackoffRate", Fraction), least=1)
+    most, jitter = fields.get(whole, "maxdelayseconds", default=None, least=1), fields.take("jitterstrategy")
+    word = "NONE" if jitter is None else str(jitter.data)
+    if word not in ("NONE", "FULL"):
+        raise Wrong(jitter.line, f"{named(jitter)} is not NONE or FULL")
+    errors = fields.get(texts, "errorequals")
+    timeout = Fields(state).get(whole, "timeoutseconds", default=0)
+    beside = {name: value_of(it) for name, it in state.data.items() if plain(name) in (
+        "heartbeatseconds", "timeoutsecondspath", "heartbeatsecondspath")}
+    left_out = {**fields.left_out(), **beside, **({"other retriers": others} if others else {})}
+    left_out |= {ERRORS: errors} if errors != ["States.ALL"] else {}
+    return made(exponential(first, factor, None if most is None else most * 1000), retries, left_out,
+                FULL if word == "FULL" else None, timeout=Fraction(timeout * 1000))
 
 
 def find_aws(root):
@@ -206,7 +295,7 @@ def find_aws(root):
     for section, node in root.data.items():
         if keys_of(node) & ({"maxattempts", "retrymode"} if section else {"awsmaxattempts", "awsretrymode"}):
             name = section.removeprefix("profile ").strip().strip("\"'") or "environment"
-            yield Found("aws", name, node.line, functools.partial(aws, node))
+            yield Found.at("aws", name, node, functools.partial(aws, node))
 
 
 def aws(node):
@@ -214,14 +303,15 @@ def aws(node):
     fields = Fields(node)
     asked = fields.take("retrymode", "awsretrymode", "mode")
     mode = "legacy" if asked is None else asked.data.lower()
-    shared = ["the tokens that all calls of a client share"]
-    left_out = {"legacy": ["DynamoDB's own waits"], "standard": shared, "adaptive": ["the rate of a client", *shared]}
-    left_out = left_out.get(mode)
-    if left_out is None:
+    if mode not in ("legacy", "standard", "adaptive"):
         raise Wrong(asked.line, f"{named(asked)} is not legacy, standard or adaptive")
+    left_out = {"legacy": {"DynamoDB": "its own waits"}, "adaptive": {"rate": "that of a client"}}.get(mode, {})
+    budget = None if mode == "legacy" else {"like": "aws", "tokens": 500, "retry": 5, "ok": 1}
     usual, most = (default("aws-standard", it) for it in ["DEFAULT_MAX_ATTEMPTS", "max_backoff"])
     attempts = fields.get(whole, "maxattempts", "awsmaxattempts", default=5 if mode == "legacy" else usual, least=1)
-    unset = ["retry_mode: not set, which is legacy in botocore and standard in newer SDKs"] if asked is None else []
-    unset += [name for name in fields.left_out() if "retr" in name.lower()]
-    waits = exponential(1000, 2, None if mode == "legacy" else most)
-    return Policy(waits, attempts - 1, unset + left_out, jitter=FULL)
+    left_out |= {"retry_mode": "not set: legacy in botocore, standard in newer SDKs"} if asked is None else {}
+    left_out |= {name: it for name, it in fields.left_out().items() if "retr" in name.lower()}
+    most = None if mode == "legacy" else most
+    drawn = exponential(1000, 2)
+    draws = Draws(drawn, "full", most) if most and attempts > 1 and drawn.at(attempts - 1) > most else None
+    return made(exponential(1000, 2, most), attempts - 1, left_out, FULL, draws=draws, budget=budget)

@@ -14,8 +14,6 @@ MOST_PIECES = 60
 # So many waits are tried to find those pieces, since waits below a millisecond may be equal when rounded.
 MOST_TRIED = 5000
 GREATEST = 2**64 - 1
-# Waits that are all equal.
-_EQUAL = re.compile(r"\(*spaced\(([0-9]+)\)(?: && (?:recurs\([0-9]+\)|elapsed\.whileOutput\(< [0-9]+\))\))*")
 
 
 class Waits(NamedTuple):
@@ -112,7 +110,8 @@ def together(parts):
     """The sums of the waits of parts."""
     steady = None if any(part.steady is None for part in parts) else max(part.steady for part in parts)
     rest = [part for part in parts if part.steady != 1 or part.at(1)]
-    return (rest or parts)[0] if len(rest) < 2 else Waits(lambda number: sum(part.at(number) for part in parts), steady)
+    at = functools.cache(lambda number: sum(part.at(number) for part in parts))
+    return (rest or parts)[0] if len(rest) < 2 else Waits(at, steady)
 
 
 def one_by_one(parts):
@@ -123,9 +122,11 @@ def one_by_one(parts):
 
 def spelled(waits, retries, limit=None):
     """The schedule of so many retries (None: without an end) that stops when `limit` milliseconds have passed, and what
-    of the waits it leaves out."""
+    of the waits it leaves out, by name."""
+    if isinstance(waits, str):
+        return waits, {}
     closed = waits.closed(retries) if retries != 0 else None
-    texts, left_out = ["recurs(0)"] if retries == 0 else [], []
+    texts, left_out = ["recurs(0)"] if retries == 0 else [], {}
     if closed is not None:
         texts = [closed if retries is None else f"recurs({retries})" if closed == "forever"
                  else f"({closed} && recurs({retries}))"]
@@ -134,37 +135,39 @@ def spelled(waits, retries, limit=None):
         raise ValueError(said("above", most=GREATEST))
     if not texts or (number is None and len(_chain(runs)) < len(texts[0])):
         texts = [_chain(runs)]
-        left_out = [] if number is None else [
-            f"waits after the first {number}, of {'all later ones' if retries is None else f'{retries} in all'}"]
+        left_out = {} if number is None else {
+            "waits": f"after the first {number}, of {'all later ones' if retries is None else f'{retries} in all'}"}
     if any(int(it) > GREATEST for it in re.findall("[0-9]+", texts[0])):
         raise ValueError(said("above", most=GREATEST))
     return texts[0] if limit is None else f"({texts[0]} && elapsed.whileOutput(< {limit}))", left_out
 
 
 class Draws(NamedTuple):
-    """Waits that are drawn, from a part of each on, and cut only then to the greatest, which is a whole number."""
+    """Waits that are drawn as the words of a jitter say, and cut only then to the greatest, a whole number, if any."""
     waits: Waits
-    least: Fraction
-    most: int
+    jitter: str
+    most: int | None = None
 
 
-def drawn(policy, schedule):
-    """A policy with its random waits in the words of the tools, or None. `schedule` has the greatest waits."""
-    jitter, draws = policy.jitter or {}, policy.draws
-    kind, percent, least = jitter.get("kind"), Fraction(str(jitter.get("percent", 0))) / 100, None
+def drawn(jitter, draws, schedule, waits, retries, limit):
+    """A policy with its random waits in the words of the tools, or None. `schedule` has the greatest ones, `waits`."""
+    kind, percent = jitter.get("kind"), Fraction(str(jitter.get("percent", 0))) / 100
     if isinstance(draws, str):
         return draws
     if draws:
-        text, left_out = spelled(draws.waits, policy.retries)
-        text = f"({text} jitter {draws.least}..1 || spaced({draws.most}))"
-        return None if left_out else text if policy.retries is None else f"({text} && recurs({policy.retries}))"
+        is_cut = draws.most and not (retries and waits.at(retries) < draws.most)
+        text, left_out = spelled(draws.waits, retries, None if is_cut else limit)
+        text = f"{text} jitter {draws.jitter}"
+        if is_cut:
+            parts = [f"({text} || spaced({draws.most}))", retries and f"recurs({retries})",
+                     limit and f"elapsed.whileOutput(< {limit})"]
+            text = functools.reduce("({} && {})".format, filter(None, parts))
+        return None if left_out else text
     if kind == "proportional":
-        least = (1 - percent) / (1 + percent)
-    elif kind == "added" and percent:
-        least = 1 / (1 + percent)
-    elif kind == "added" and (only := _EQUAL.fullmatch(schedule)):
-        least = 1 - Fraction(jitter["up_to_ms"], int(only[1]))
-    return f"{schedule} jitter full" if jitter == {"kind": "full"} else least and f"{schedule} jitter {least}..1"
+        return f"{schedule} jitter {(1 - percent) / (1 + percent)}..1"
+    if kind == "added" and percent:
+        return f"{schedule} jitter {1 / (1 + percent)}..1"
+    return f"{schedule} jitter full" if kind == "full" else None
 
 
 def _runs(waits, retries):

@@ -15,15 +15,14 @@ MOST_HISTORIES, SHORT, MOST_TEXT = 3000, 8, 20_000_000
 
 
 def canonical(policy):
-    """The canonical spelling of a policy that the program has read, as tokens, with the range of each draw, and the
-    jitter of its config that isn't drawn."""
+    """The canonical spelling of a policy that the program has read, as tokens, with the range of each draw."""
     tokens = " ".join(found[0] for found in TOKEN.finditer(policy.schedule(RANGES)))
-    return re.sub(r"exponential \( ([^(),]*) \)", r"exponential ( \1 , 2 )", tokens), str(policy.jitter)
+    return re.sub(r"exponential \( ([^(),]*) \)", r"exponential ( \1 , 2 )", tokens)
 
 
 def _edges(policies, more, least, most):
     """The numbers at and beside each one of some texts, and others, that are within limits."""
-    numbers = {int(it) for policy in policies for it in re.findall("[0-9]+", policy.spelled)} | set(more)
+    numbers = {int(it) for policy in policies for it in re.findall("[0-9]+", policy.schedule(HIGH))} | set(more)
     return sorted({number + by for number in numbers for by in (-1, 0, 1)
                    if least <= number + by <= most} | {least, min(most, max(numbers) + 1)})
 

@@ -1,5 +1,6 @@
 """The command zsched-report: converts a report to other forms."""
 import argparse
+import contextlib
 import gc
 import os
 import re
@@ -7,6 +8,7 @@ import sys
 
 from zsched_tools import command, load
 from zsched_tools.command import Refused
+from zsched_tools.crowd import crowd_of, draw_crowd, note_of
 from zsched_tools.drawing import View
 from zsched_tools.durations import duration_argument
 from zsched_tools.picture import MOST_JOBS
@@ -15,7 +17,7 @@ from zsched_tools.report.lines import write_lines, write_report
 from zsched_tools.report.page import load_page, page
 from zsched_tools.report.summary import SORTS, Options, write_summary
 from zsched_tools.reports import as_text
-from zsched_tools.strip import crowd_of, draw_crowd, draw_strip, note_of
+from zsched_tools.strip import draw_strip
 
 TOOL = "zsched-report"
 DESCRIPTION = """A report of zsched in other forms.
@@ -32,32 +34,44 @@ for each job, and one of type total at the end. `next` is null if the schedule i
 wasn't stepped, `waited` is the time since the end of the attempt before. Numbers are whole, at most 2^64 - 1: a program
 that reads them as 64-bit floats loses their last digits. Lines are written while the report is read, so its length
 doesn't matter. If the report is rejected, the lines before the fault are written, the status is 2, and there is no line
-of type total."""
+of type total.
+
+  zsched < plan.json | zsched-report lines > whole.jsonl"""
 FROM_LINES = """Writes the report of JSON lines, with the same bytes that `lines` read. Lines that form no report are
-rejected; as with `lines`, the part before the fault is written."""
+rejected; as with `lines`, the part before the fault is written.
+
+  zsched-report from-lines whole.jsonl > whole.report"""
 SUMMARY = """Writes a table with a line a job: its ending, the moment of the ending, its attempts, the number that
 succeeded (ok) and failed (err), the time that its attempts took (busy), the time between them (waited) and the longest
 wait. An attempt that runs or a wait that continues at the horizon counts up to it. The lines below are the most
 attempts at once, with the first such moment, and the times within which 50, 95 and 99 of 100 jobs ended. A job's time
-is that from its first attempt to its end; an unfinished job takes longer than all others."""
+is that from its first attempt to its end; an unfinished job takes longer than all others.
+
+  zsched < plan.json | zsched-report summary"""
 LOAD = """Writes a table with a line for each step of time: the number of attempts that began, succeeded (ok) and failed
 (err) in it, the number of attempts that run and of jobs that wait for their next attempt at its end. The first line is
 the first step in which something begins, the last line the last step in which something begins or ends. A step includes
-its first moment and not its last."""
+its first moment and not its last.
+
+  zsched < plan.json | zsched-report load --every 100ms"""
 SVG = """Writes a picture: jobs from top to bottom, time from left to right. Rest the pointer on an attempt to see its
 data. Attempts that are too near each other share a striped block. If there are more than 16 jobs, a strip with their
 load is below them; if there are more than 200, only the load is drawn. The picture is 1240 pixels wide, and a narrower
-window scrolls: on a phone the page of `html` is better."""
-HTML = """Writes the picture of `svg` as a page with a time axis that zooms. The page loads nothing from other hosts."""
+window scrolls: on a phone the page of `html` is better.
+
+  zsched < plan.json | zsched-report svg > whole.svg"""
+HTML = """Writes the picture of `svg` as a page with a time axis that zooms. The page loads nothing from other hosts.
+
+  zsched < plan.json | zsched-report html > whole.html"""
 
 
 def _with_source(given, work):
     """Calls `work` with the given binary file or standard input. An error of the input gets the name of the file."""
+    is_file = given.file not in (None, "-")
+    source = command.opened(given.file) if is_file else contextlib.nullcontext(command.standard_input())
     try:
-        if given.file in (None, "-"):
-            return work(command.standard_input(), _progress(None))
-        with open(given.file, "rb") as binary:
-            return work(binary, _progress(os.fstat(binary.fileno()).st_size))
+        with source as binary:
+            return work(binary, _progress(is_file and os.fstat(binary.fileno()).st_size))
     except Refused as refused:
         is_plan = re.match(r"""line 1 .*: '\{('|.*"(horizon|ticks|jobs)")""", str(refused))
         hint = "; this is a plan, and zsched writes its report" if is_plan else ""
@@ -74,7 +88,7 @@ def _progress(size):
 def _lines(given):
     # On a terminal the lines leave no room for a progress line.
     _with_source(given, lambda file, progress: write_lines(
-        file, sys.stdout.write, None if sys.stdout.isatty() else progress))
+        file, print, None if sys.stdout.isatty() else progress))
 
 
 def _load(given):
@@ -140,9 +154,9 @@ def _arguments():
     for name, work, about, short in [
             ("lines", _lines, LINES, "JSON lines"),
             ("from-lines", lambda given: _with_source(given, lambda file, _: write_report(
-                as_text(file), sys.stdout.write)), FROM_LINES, "the report again, from JSON lines"),
+                as_text(file), print)), FROM_LINES, "the report again, from JSON lines"),
             ("summary", lambda given: _with_source(given, lambda file, progress: write_summary(
-                file, sys.stdout.write, Options(given.sort, given.one_line, given.within), progress)),
+                file, print, Options(given.sort, given.one_line, given.within), progress)),
              SUMMARY, "a table with a line a job"),
             ("load", _load, LOAD, "a table with a line for each step of time"),
             ("svg", lambda given: _draw(given, False), SVG, "a picture"),

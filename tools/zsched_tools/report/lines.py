@@ -27,7 +27,7 @@ def item_of(job, record):
 def write_lines(file, write, progress=None):
     """Writes the JSON lines of a report, a binary file, while it is read."""
     for job, record in records(file, progress):
-        write(_encode(item_of(job, record)) + "\n")
+        write(_encode(item_of(job, record)))
 
 
 def report_lines(item, is_open):
@@ -76,6 +76,5 @@ def write_report(source, write):
             raise Refused(f"line {number} isn't a line of a report as JSON: {shown(line)}") from None
         for text in texts:
             write(text)
-            write("\n")
     if reader.total is None:
         raise Refused(f"ends after line {number}, without its last line, of type total")

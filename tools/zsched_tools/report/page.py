@@ -2,27 +2,28 @@
 
 The page contains the picture of a file. If scripts run, they draw it again at the width of the window, with the code of
 docs/play.html."""
-import html
 import json
 
 from zsched_tools import hints, picture
-from zsched_tools.drawing import View
+from zsched_tools.drawing import WIDTH, View, escaped
 from zsched_tools.report.lines import item_of, report_lines
 from zsched_tools.strip import draw_strip
 
 # The widths in which the load of many jobs is drawn, and the margin next to it.
-LOAD_WIDTHS = (330, 760, picture.WIDTH)
+LOAD_WIDTHS = (330, 760, WIDTH)
 BESIDE = 24
 
 HEAD = """<!doctype html>
 <html lang="en">
 <meta charset="utf-8">
 <meta name="viewport" content="width=device-width, initial-scale=1">
+<meta http-equiv="Content-Security-Policy" content="default-src 'none'; {scripts}style-src 'unsafe-inline'">
 <title>{title}</title>
 <style>
 {style}
 body{{margin:0;font:14px system-ui,"DejaVu Sans",sans-serif;color:var(--ink);background:var(--page)}}
-h1{{font-size:17px;margin:10px 12px 0}}label{{display:flex;gap:4px;align-items:center}}small{{color:var(--soft)}}
+h1{{font-size:17px;margin:10px 12px 0}}p{{margin:8px 12px 0;overflow-wrap:anywhere}}
+label{{display:flex;gap:4px;align-items:center}}small{{color:var(--soft)}}
 header{{position:sticky;top:0;background:var(--page);padding:8px 12px 0;z-index:1}}
 header div{{display:flex;flex-wrap:wrap;gap:4px;align-items:center;margin-bottom:6px}}
 button{{font:inherit;min-width:2.5em;padding:2px 8px;color:inherit;background:var(--band)}}
@@ -45,7 +46,8 @@ TOOLS = """<header>
 """
 VIEW = """"use strict";
 const main = document.querySelector("main"), the = id => document.getElementById(id);
-const rows = drawing.rowsOf(the("report").textContent), first = JSON.parse(the("view").textContent);
+const first = JSON.parse(the("view").textContent);
+const rows = drawing.rowsOf(the("report").textContent).map((row, number) => drawing.known(row, first.rows?.[number]));
 let view = {}, drawn;
 the("log").checked = first.isLog;
 function draw() {
@@ -79,16 +81,27 @@ draw();
 """
 
 
-def _head(title):
-    name = html.escape(title or "Timeline of a report of zsched")
-    yield HEAD.format(title=name, style=hints.piece("drawing-style"))
+def _head(title, scripts=""):
+    name = escaped(title or "Timeline of a report of zsched")
+    allowed = f"script-src {hints.script_sources(scripts)}; " if scripts else ""
+    yield HEAD.format(title=name, style=hints.PIECES["drawing-style"], scripts=allowed)
     if title:
-        yield f"<h1>{html.escape(title)}</h1>\n"
+        yield f"<h1>{escaped(title)}</h1>\n"
 
 
-def page(rows, title, view=View()):
-    """The page of some jobs, in pieces."""
-    yield from _head(title)
+def _known(row):
+    """What a page knows of a row beside its report. The limit of a call counts from its first attempt, the others of
+    draws are moments."""
+    limit = row.limit and row.limit - row.attempts[0].begin
+    found = {"limit": limit, "draws": row.draws, "end": row.end, "depth": row.depth}
+    return {key: value for key, value in found.items() if value}
+
+
+def page(rows, title, view=View(), notes=()):
+    """The page of some jobs, in pieces, with the notes above the picture."""
+    scripts = f"<script>\n{hints.PIECES['drawing']}</script>\n<script>\n{VIEW}</script>\n"
+    yield from _head(title, scripts)
+    yield from (f"<p>{escaped(note)}</p>\n" for note in notes)
     yield TOOLS + '<main tabindex="0">\n'
     for line in picture.draw(rows, title, view, is_file=False):
         yield f"{line}\n"
@@ -96,10 +109,11 @@ def page(rows, title, view=View()):
     for row in rows:
         for number, record in enumerate([*row.attempts, row.ending]):
             yield from (f"{line}\n" for line in report_lines(item_of(row.job, record), is_open=number > 0))
-    shown = {"from": view.first, "to": view.last, "isLog": view.is_log}
+    known = list(map(_known, rows))
+    shown = {"from": view.first, "to": view.last, "isLog": view.is_log, "rows": known if any(known) else None}
     options = json.dumps({key: value for key, value in shown.items() if value is not None})
     yield f'</script>\n<script type="application/json" id="view">{options}</script>\n'
-    yield f"<script>\n{hints.piece('drawing')}</script>\n<script>\n{VIEW}</script>\n</html>\n"
+    yield f"{scripts}</html>\n"
 
 
 def _style_of_widths():
@@ -117,7 +131,7 @@ def load_page(load, title, note, view=View()):
     """The page of a load, in pieces, in each of some widths. It doesn't zoom."""
     yield from _head(title)
     yield from _style_of_widths()
-    yield f'<main tabindex="0">\n<p><small>{html.escape(note)}</small></p>\n'
+    yield f'<main tabindex="0">\n<p><small>{escaped(note)}</small></p>\n'
     for width in LOAD_WIDTHS:
         yield f'<div class="w{width}">\n'
         for line in draw_strip(load, "", view=view, width=width):

@@ -128,11 +128,11 @@ def write_summary(file, write, options=Options(), progress=None):
     for job, record in records(file, progress):
         summary.add(job, record)
     if options.one_line:
-        write("; ".join(_lines(summary)) + "\n")
+        write("; ".join(_lines(summary)))
         return
     if summary.jobs():
         for line in table([HEAD, *(cells for _, cells in sorted(summary.rows, key=lambda row: row[0]))]):
-            write(f"{line}\n")
-        write("\n")
+            write(line)
+        write("")
     for line in _lines(summary):
-        write(f"{line}\n")
+        write(line)

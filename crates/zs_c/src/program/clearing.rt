@@ -51,7 +51,7 @@ pub(crate) fn clear(code: &[u64], words: &mut [u64], levels: u64)
     }
 }
 
-// The same for two parts.
+// Resets the words of both parts of an operator.
 #[cycle(clearing)]
 fn clear_parts(code: &[u64], words: &mut [u64], sizes: Sizes, levels: u64)
     ensures clears { ClearsParts sizes code.now levels words.old words.new }

@@ -13,6 +13,7 @@ use crate::program::node::{
     LINEAR, MAP, RECURS, RESET_WHEN, SPACED, WHILE_INPUT, WHILE_OUTPUT, WINDOWED,
 };
 use crate::program::opening::{PROGRAM_VERSION, check_word};
+use crate::program::running::STATE_HEAD;
 use crate::refusal::Refusal;
 use std::alloc::Global;
 use zs_term::{Checked, Func, Kind, Term};
@@ -38,7 +39,7 @@ pub(crate) fn new_program(alloc: Global, checked: &Checked) -> Result<(Vec<u64>,
     let mut program = Vec::new(alloc);
     program.extend_from_slice(&[PROGRAM_VERSION, check_word(&body)])?;
     program.extend_from_slice(&body)?;
-    Ok((program, state + 4))
+    Ok((program, state + STATE_HEAD as u64))
 }
 
 // Whether outputs of a kind have no list in them.

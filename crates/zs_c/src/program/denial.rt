@@ -18,6 +18,8 @@ pub(crate) enum Denial {
     Falls,
     /// A struct isn't of the size that this version reads.
     OtherSize,
+    /// The words don't begin with the version of states.
+    OtherVersion,
 }
 
 impl Denial {
@@ -32,6 +34,7 @@ impl Denial {
             Denial::NoProgram => 8,
             Denial::OtherState => 9,
             Denial::OtherSize => 17,
+            Denial::OtherVersion => 18,
         }
     }
 }

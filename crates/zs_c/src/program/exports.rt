@@ -1,12 +1,12 @@
 //! The functions over programs that C calls.
 
-ghost use Rattle.std.specs.Prelude.{◌≡◌, ◌<◌, ◌≤◌, ℕ, true, length, slice_index_or};
+ghost use Rattle.std.specs.Prelude.{◌≡◌, ◌<◌, ◌≤◌, ℕ, true, length};
 ghost use Rattle.zs_term.specs.Schedule.{Schedule};
 ghost use Rattle.zs_step.specs.History.{History};
 ghost use Rattle.zs_c.specs.Numbers.{decision_number, next_moment};
 ghost use Rattle.zs_c.specs.Plan.{PlansFairly, IsPlannable, IsTurnDenied, IsTurnPlanned, moment_of};
 ghost use Rattle.zs_c.specs.Planned.{KeepsBounds};
-ghost use Rattle.zs_c.specs.Program.{IsChecked, IsProgram, KeepsProgramState};
+ghost use Rattle.zs_c.specs.Program.{IsChecked, IsProgram, IsStateOf, KeepsProgramState, planned_in};
 ghost use Rattle.zs_c.specs.Programs.{IsProgramSized, IsCompiled, IsCompileRefusal, IsUnfit, IsStepDenied, IsOutputDenied, IsDeniedFor, IsProgramBegun, IsProgramStepped, IsOutputTold, IsStepSafe};
 ghost use Rattle.zs_c.specs.Refusals.{IsSizeRefusal};
 ghost use Rattle.zs_c.specs.Shown.{shows_no_list};
@@ -16,7 +16,7 @@ use crate::program::compiling::{fitting_program, sizes_in};
 use crate::program::leaf::Step;
 use crate::program::planning::{open_for_turn, plan_turn};
 use crate::program::running::{
-    begin, open_fitting, open_for_output, open_for_step, put_text, run_step,
+    STATE_HEAD, begin, open_fitting, open_for_output, open_for_step, put_text, run_step,
 };
 use crate::room::put_words;
 use crate::turn::Turn;
@@ -111,10 +111,12 @@ pub fn zs_program_step(
         → IsProgramStepped t state.old state.new (moment, input) result next.new visits.new }
     // The words have a version, a code and its check word.
     ensures checked { result ≤ 1 → IsChecked program.now }
-    // A step of such words leaves the state's first word, and what follows the state.
+    // The state's words begin with its version and the program's check word.
+    ensures stated { result ≤ 1 → IsStateOf program.now state.old }
+    // A step of such words leaves these two, and what follows the state.
     ensures safe { result ≤ 1 → IsStepSafe program.now state.old state.new moment }
-    ensures planned { slice_index_or state.new 2 0 ≡ slice_index_or state.old 2 0 }
-    // No program, too few words, another program's state, or a moment below the last one.
+    ensures planned { planned_in state.new ≡ planned_in state.old }
+    // No program, too few words, a state of another version or program, or a moment below the last.
     ensures refused { 1 < result → IsDeniedFor (IsStepDenied program.now state.old moment) result }
     ensures nothing { 1 < result → (next.new ≡ 0) × (visits.new ≡ 0) }
     ensures stays { 1 < result → state.new ≡ state.old }
@@ -139,14 +141,16 @@ pub fn zs_output(program: &[u64], state: &[u64], out: &mut [u8], size: &mut u64)
     ensures told { result ≡ 0 → (t : Schedule) → IsProgram program.now t → shows_no_list t ≡ true
         → IsOutputTold t state.now out.old out.new size.new }
     ensures checked { result ≡ 0 → IsChecked program.now }
-    // No program, too few words, another program's state, or no step.
+    ensures stated { result ≡ 0 → IsStateOf program.now state.now }
+    // No program, too few words, a state of another version or program, or no step.
     ensures refused { 0 < result → IsDeniedFor (IsOutputDenied program.now state.now) result }
     ensures nothing { 0 < result → size.new ≡ 0 }
     ensures kept { 0 < result → out.new ≡ out.old }
 {
     match open_for_output(program, state) {
         Ok(opened) => {
-            *size = put_text(opened.code, &state[4..opened.state + 4], out);
+            let words = &state[STATE_HEAD..opened.state + STATE_HEAD];
+            *size = put_text(opened.code, words, out);
             0
         }
         Err(why) => {
@@ -183,8 +187,9 @@ pub fn zs_plan(program: &[u64], state: &mut [u64], turn: &Turn, begin: &mut u64)
     ensures succeeds { (t : Schedule) (h : History) (planned : ℕ) → IsProgram program.now t
         → KeepsProgramState t h planned state.old → IsPlannable h planned turn.now → result ≤ 1 }
     ensures checked { result ≤ 1 → IsChecked program.now }
+    ensures stated { result ≤ 1 → IsStateOf program.now state.old }
     ensures safe { result ≤ 1 → IsStepSafe program.now state.old state.new
-        (moment_of (slice_index_or state.old 2 0) turn.now) }
+        (moment_of (planned_in state.old) turn.now) }
     ensures refused { 1 < result → IsDeniedFor (IsTurnDenied program.now state.old turn.now) result }
     ensures nothing { 0 < result → begin.new ≡ 0 }
     ensures stays { 1 < result → state.new ≡ state.old }

@@ -88,9 +88,9 @@ pub(crate) fn store(leaf: &Leaf, steps: u64, words: &mut [u64])
 {
     let output = leaf.output();
     match leaf {
-        Leaf::Forever { .. } => put_words(words, &[output, steps]),
-        Leaf::Recurs { .. } => put_words(words, &[output, steps]),
-        Leaf::Spaced { .. } => put_words(words, &[output, steps]),
+        Leaf::Forever { .. } | Leaf::Recurs { .. } | Leaf::Spaced { .. } => {
+            put_words(words, &[output, steps]);
+        }
         Leaf::Fixed { past, run, .. } => {
             put_words(words, &[output, steps, first_in(*past), *run]);
         }
@@ -107,8 +107,5 @@ pub(crate) fn store(leaf: &Leaf, steps: u64, words: &mut [u64])
 fn first_in(past: Option<Past>) -> u64
     ensures value { result ≡ first_in past }
 {
-    match past {
-        None => 0,
-        Some(Past { first, .. }) => first,
-    }
+    past.map_or(0, |it| it.first)
 }

@@ -47,10 +47,10 @@ pub(crate) const COLLECT_ALL: u64 = 18;
 /// The words of an operator before its parts: its tag, and two more words.
 pub(crate) const HEAD: usize = 3;
 
-/// The same for `whileOutput` and `resetWhen`, which have three.
+/// The words of `whileOutput` and of `resetWhen` before their part: three after the tag.
 pub(crate) const LONG_HEAD: usize = 4;
 
-/// The same for `collectAll`, which has none.
+/// The words of `collectAll` before its part: its tag.
 pub(crate) const SHORT_HEAD: usize = 1;
 
 // The sizes of an operator's first part: the number of words of its code, and of its state.
@@ -74,7 +74,8 @@ pub(crate) enum Form {
     CollectAll,
 }
 
-// Reads the form of the node at the front of a code. Words that are no code are read as some form.
+// Reads the form of the node at the front of a code. Of words that `zs_compile` never writes it
+// returns some form too.
 #[inline(always)]
 #[tactic(auto, unfolding(crate::specs::Form::node_at))]
 pub(crate) fn read_node(code: &[u64]) -> Form

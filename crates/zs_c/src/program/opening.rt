@@ -1,12 +1,25 @@
 //! Whether words are a program.
 
-ghost use Rattle.std.specs.Prelude.{◌≡◌, slice_index_or, IfSome, IfNone};
+ghost use Rattle.std.specs.Prelude.{◌≡◌, IfSome, IfNone};
 ghost use Rattle.zs_term.specs.Schedule.{Schedule};
-ghost use Rattle.zs_c.specs.Program.{check_word, IsChecked, IsProgram};
+ghost use Rattle.zs_c.specs.Program.{check_word, check_in, state_size_in, IsChecked, IsProgram};
 ghost use Rattle.zs_c.specs.Opened.{Opens};
 
 /// The first word of each program: the version of its form.
 pub(crate) const PROGRAM_VERSION: u64 = 0x7a73_6368_6564_0003;
+
+/// The places of the version and of the check word, in a program and in its states.
+pub(crate) const VERSION: usize = 0;
+
+pub(crate) const CHECK: usize = 1;
+
+/// The places of the sizes of a program's code and of its state.
+const CODE_SIZE: usize = 2;
+
+const STATE_SIZE: usize = 3;
+
+/// The number of these words. The code comes after them.
+const PROGRAM_HEAD: usize = 4;
 
 /// The check word of no words.
 pub(crate) const CHECK_START: u64 = 0xcbf2_9ce4_8422_2325;
@@ -27,23 +40,24 @@ pub(crate) struct Opened<'a> {
 pub(crate) fn open(program: &[u64]) -> Option<Opened<'_>>
     ensures some { IfSome result (λ o. (t : Schedule) → IsProgram program.now t → Opens o t) }
     ensures checked { IfSome result (λ _. IsChecked program.now) }
-    ensures state { IfSome result (λ o. o.state ≡ slice_index_or program.now 3 0) }
+    ensures check { IfSome result (λ o. o.check ≡ check_in program.now) }
+    ensures state { IfSome result (λ o. o.state ≡ state_size_in program.now) }
     ensures none { IfNone result ((t : Schedule) → IsProgram program.now t → ⊥) }
 {
-    if program.len() < 4 || program[0] != PROGRAM_VERSION {
+    if program.len() < PROGRAM_HEAD || program[VERSION] != PROGRAM_VERSION {
         return None;
     }
-    let size = program[2] as usize;
-    if size == 0 || program.len() - 4 < size {
+    let size = program[CODE_SIZE] as usize;
+    if size == 0 || program.len() - PROGRAM_HEAD < size {
         return None;
     }
-    if check_word(&program[2..size + 4]) != program[1] {
+    if check_word(&program[CODE_SIZE..size + PROGRAM_HEAD]) != program[CHECK] {
         return None;
     }
     Some(Opened {
-        check: program[1],
-        state: program[3] as usize,
-        code: &program[4..size + 4],
+        check: program[CHECK],
+        state: program[STATE_SIZE] as usize,
+        code: &program[PROGRAM_HEAD..size + PROGRAM_HEAD],
     })
 }
 

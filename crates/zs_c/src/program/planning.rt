@@ -1,18 +1,18 @@
 //! Plans the next attempt of a loop, in the words of a program's state.
 
-ghost use Rattle.std.specs.Prelude.{◌≡◌, ◌+◌, ◌<◌, ◌≤◌, List, ℕ, length, slice_index_or, IfOk, IfErr};
+ghost use Rattle.std.specs.Prelude.{◌≡◌, ◌+◌, ◌<◌, ◌≤◌, List, ℕ, length, IfOk, IfErr};
 ghost use Rattle.zs_term.specs.Schedule.{Schedule};
 ghost use Rattle.zs_c.specs.Opened.{Opens, PlansOpened};
 ghost use Rattle.zs_c.specs.Plan.{IsTurnDenied, moment_of};
 ghost use Rattle.zs_c.specs.Planned.{IsCounted};
-ghost use Rattle.zs_c.specs.Program.{IsChecked, IsProgram};
+ghost use Rattle.zs_c.specs.Program.{IsChecked, IsProgram, IsStateOf, planned_in, state_head, state_size_in};
 ghost use Rattle.zs_c.specs.Programs.{IsStepSafe};
 
 use crate::program::denial::Denial;
 use crate::program::leaf::Step;
 use crate::program::node::word;
 use crate::program::opening::Opened;
-use crate::program::running::{open_for_step, run_step};
+use crate::program::running::{PLANNED, open_for_step, run_step};
 use crate::turn::Turn;
 use zs_step::Decision;
 
@@ -25,30 +25,31 @@ pub(crate) fn open_for_turn<'a>(
 ) -> Result<Opened<'a>, Denial>
     ensures ok { IfOk result (λ o. (t : Schedule) → IsProgram program.now t → Opens o t) }
     ensures checked { IfOk result (λ _. IsChecked program.now) }
-    ensures state { IfOk result (λ o. o.state ≡ slice_index_or program.now 3 0) }
-    ensures fits { IfOk result (λ o. o.state + 4 ≤ length state.now) }
+    ensures state { IfOk result (λ o. o.state ≡ state_size_in program.now) }
+    ensures fits { IfOk result (λ o. o.state + state_head ≤ length state.now) }
     ensures counted { IfOk result (λ _. IsCounted turn.now) }
+    ensures stated { IfOk result (λ _. IsStateOf program.now state.now) }
     ensures err { IfErr result (IsTurnDenied program.now state.now turn.now) }
-    ensures word { slice_index_or state.now 2 0 < 18446744073709551616 }
+    ensures word { planned_in state.now < 18446744073709551616 }
 {
     if !turn.is_sized() {
         return Err(Denial::OtherSize);
     }
-    open_for_step(program, state, turn.moment(word(state, 2)))
+    open_for_step(program, state, turn.moment(word(state, PLANNED)))
 }
 
 // Steps a program at the end of a turn, and plans the next attempt. Returns the number of the plan.
 #[inline(always)]
 pub(crate) fn plan_turn(opened: Opened<'_>, state: &mut [u64], turn: Turn, begin: &mut u64) -> u32
-    requires fits { opened.state + 4 ≤ length state.old }
+    requires fits { opened.state + state_head ≤ length state.old }
     ensures told { result ≤ 1 }
     ensures planned { PlansOpened opened.entry state.old state.new turn result begin.new }
-    ensures safe { (program : List ℕ) → opened.entry.state ≡ slice_index_or program 3 0
-        → IsStepSafe program state.old state.new (moment_of (slice_index_or state.old 2 0) turn) }
+    ensures safe { (program : List ℕ) → opened.entry.state ≡ state_size_in program
+        → IsStepSafe program state.old state.new (moment_of (planned_in state.old) turn) }
     ensures nothing { 0 < result → begin.new ≡ 0 }
 {
     let step = Step {
-        moment: turn.moment(state[2]),
+        moment: turn.moment(state[PLANNED]),
         input: turn.input,
     };
     let mut visits = 0;
@@ -60,7 +61,7 @@ pub(crate) fn plan_turn(opened: Opened<'_>, state: &mut [u64], turn: Turn, begin
     match turn.begin(step.moment, next) {
         None => 1,
         Some(planned) => {
-            state[2] = planned / 1_000_000;
+            state[PLANNED] = planned / 1_000_000;
             *begin = planned;
             0
         }

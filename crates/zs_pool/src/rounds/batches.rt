@@ -53,7 +53,7 @@ pub(crate) fn in_order(
     ensures memory { IfErr result (λ e. e ≡ Memory) }
 {
     let slots = place_batches(alloc, now, batches, count, messages)?;
-    let mut all = Vec::new(alloc);
+    let mut all = Vec::with_capacity(alloc, count)?;
     for slot in slots {
         let Some(message) = slot else { unreachable!() };
         all.append(&mut message.into_tasks()?)?;

@@ -1,4 +1,4 @@
-"""Represents build/unproved.py: notes that it was called, and copies the program with its mark, or fails."""
+"""Represents build/unproved.py: notes that it was called, and copies the program, or fails."""
 import os
 import pathlib
 import shutil
@@ -14,5 +14,3 @@ if os.environ["WANTED"] == "slow":
 if os.environ["WANTED"] == crate:
     sys.exit("error: refused")
 shutil.copy(os.environ["PROGRAM"], file)
-with open(file, "ab") as program:
-    program.write(b"\nunproved\n")

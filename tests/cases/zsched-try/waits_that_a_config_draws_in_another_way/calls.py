@@ -1,7 +1,8 @@
 from tenacity import *
-@retry(wait=wait_exponential(max=10) + wait_random(0, 2), stop=stop_after_delay(30))
+@retry(wait=wait_random(0, 5) + wait_random(0, 2), stop=stop_after_delay(30))
 def one(): ...
-@retry(wait=wait_random_exponential(min=1, max=10), stop=stop_after_delay(30) | stop_after_attempt(7))
+@retry(wait=wait_chain(wait_random(0, 1), wait_random(1, 2), wait_fixed(4), wait_fixed(8), wait_fixed(10)),
+       stop=stop_after_delay(30) | stop_after_attempt(7))
 def two(): ...
 @retry(wait=wait_random_exponential(min=1, max=10) + wait_random(0, 2), stop=stop_after_attempt(5))
 def three(): ...

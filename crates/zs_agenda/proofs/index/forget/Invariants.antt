@@ -5,4 +5,5 @@ use Rattle.zs_agenda.proofs.index.forget.Given as goal
 
 abbrev pub invariant-loop-job : goal.invariant-loop-job
 invariant-loop-job l =
-    (q : ℕ) → tree.get nat_cmp l.by_job q ≡ cond (list_any (λ j. j == q) (take l.job-index l.jobs)) None (tree.get nat_cmp l.initial.by_job q)
+    (q : ℕ) → tree.get nat_cmp l.by_job q ≡ cond (list_any (λ j. j == q) (take l.job-index l.jobs))
+    None (tree.get nat_cmp l.initial.by_job q)

@@ -8,6 +8,10 @@ use Rattle.zs_agenda.proofs.index.place_of.Goals as goal
 pub returns : goal.returns
 returns c = record {
   value =
-      let point = c.partition_point.ensures.partitioned (λ j. nat_lt j c.args.job) (always_returns_same _ _ _ (λ a r f k. search rules)) (parts c.args.jobs.now c.args.job (IsStrictlyIncreasing-rising _ c.requires.rising)) in
-      sym (prefix_len_is (λ j. nat_lt j c.args.job) c.args.jobs.now c.partition_point.result 0 c.partition_point.ensures.bound (λ k l. point.0 k 0 (omega arith) l) (λ l. point.1 _ 0 (omega arith) l));
+      let point = c.partition_point.ensures.partitioned (λ j. nat_lt j c.args.job)
+      (always_returns_same _ _ _ (λ a r f k. search rules))
+      (parts c.args.jobs.now c.args.job (IsStrictlyIncreasing-rising _ c.requires.rising)) in
+      sym (prefix_len_is (λ j. nat_lt j c.args.job) c.args.jobs.now c.partition_point.result 0
+      c.partition_point.ensures.bound (λ k l. point.0 k 0 (omega arith) l)
+      (λ l. point.1 _ 0 (omega arith) l));
 }

@@ -1,4 +1,5 @@
-use Rattle.zs_agenda.proofs.TestLemmas.{tick_list_passes, tick_list_passed, clock_passes, clock_passed}
+use Rattle.zs_agenda.proofs.TestLemmas.{tick_list_passes, tick_list_passed, clock_passes}
+use Rattle.zs_agenda.proofs.TestLemmas.{clock_passed}
 use Rattle.zs_agenda.proofs.laws.clocks_are_tested.Goals as goal
 
 pub returns : goal.returns

@@ -14,6 +14,8 @@ returns-clause-promises c =
     let same : node_schedule c.in_ok-node.node ≡ s = made.schedule ∙ term in
     let state : node_state c.in_ok-node.node ≡ first_state s = made.state ∙ ap first_state term in
     let decides : c.in_ok-node.first.1 ≡ (first_range s).decision =
-    ap (λ (r : AnswerRange). r.decision) made.first ∙ ap (λ (t : Schedule). (first_range t).decision) same in
-    result-promises s (node_schedule c.in_ok-node.node) c.args.driver c.args.steps (node_state c.in_ok-node.node) c.in_ok-node.first.1 c.bounds_from.result
+    ap (λ (r : AnswerRange). r.decision) made.first
+    ∙ ap (λ (t : Schedule). (first_range t).decision) same in
+    result-promises s (node_schedule c.in_ok-node.node) c.args.driver c.args.steps
+    (node_state c.in_ok-node.node) c.in_ok-node.first.1 c.bounds_from.result
     same state decides c.term.ensures.schedule.factors c.bounds_from.ensures.value

@@ -8,5 +8,6 @@ returns c = record {
   only = exact-only;
   same = exact-same;
   value = bounds-waits;
-  begins = λ s d h x m never tick decides attempt. lets-exactly d s h x m never tick decides attempt;
+  begins = λ s d h x m never tick decides attempt. lets-exactly d s h x m never tick
+      decides attempt;
 }

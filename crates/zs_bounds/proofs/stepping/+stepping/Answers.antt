@@ -5,7 +5,8 @@ use Rattle.zs_bounds.specs.StateRange.{turns, first_range, next_range, next_stat
 use Rattle.zs_bounds.specs.Node.{node_schedule, node_state}
 use Rattle.zs_bounds.proofs.Turning.{turn_results, turn_states}
 use Rattle.zs_bounds.proofs.stepping.+stepping.Goals as goal
-use Rattle.zs_bounds.proofs.stepping.+stepping.Goals.{step_and_then-then-is_on, step_and_then-else-is_on}
+use Rattle.zs_bounds.proofs.stepping.+stepping.Goals.{step_and_then-then-is_on}
+use Rattle.zs_bounds.proofs.stepping.+stepping.Goals.{step_and_then-else-is_on}
 
 pub step_and_then-returns-clause-range : goal.step_and_then-returns-clause-range
 step_and_then-returns-clause-range t c =
@@ -38,7 +39,8 @@ step_and_then-returns-clause-moves t c =
       state =
           ap (λ z. turns c.may_go_on-turns.result z (node_state c.step_if.new.part)
           (node_state c.begin.new.node)) on
-          ∙ turn_states c.args.turns.now.first_on c.args.turns.now.second_on c.may_go_on-turns.result
+          ∙ turn_states c.args.turns.now.first_on c.args.turns.now.second_on
+          c.may_go_on-turns.result
           (next_range a x later) (result_range c.in_ok-x.x) b (node_schedule c.step_if-2.new.part)
           x (next_state a x later) y (next_state b y later)
           (node_state c.step_if.new.part) (node_state c.step_if-2.new.part)

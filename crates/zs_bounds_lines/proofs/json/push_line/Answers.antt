@@ -1,5 +1,5 @@
 use Rattle.std.proofs.Common.{◌++◌, ℕ, List, codes}
-use Rattle.zs_bounds_lines.specs.BoundsLines.{range_text, steps_text, times_text, truth_text, waits_text}
+use Rattle.zs_bounds_lines.specs.BoundsLines.{range_text, steps_text, times_text, truth_text, waits_text, within_text}
 use Rattle.zs_bounds_lines.proofs.TextLemmas.{pushed}
 use Rattle.zs_bounds_lines.proofs.json.push_line.Goals as goal
 
@@ -15,8 +15,10 @@ returns c =
     let label : List ℕ = codes ",\"never_gives_up\":" in
     let truth : List ℕ = truth_text c.args.endless in
     let times : List ℕ = times_text told in
+    let within : List ℕ = within_text c.args.within in
     let driver : List ℕ = policy ++ attempt ++ named ++ waits in record {
-      text = pushed _ _ _ (driver ++ name ++ attempts ++ label ++ truth ++ times) (steps_text told)
+      text = pushed _ _ _ (driver ++ name ++ attempts ++ label ++ truth ++ times ++ within) (steps_text told)
+          (pushed _ _ _ (driver ++ name ++ attempts ++ label ++ truth ++ times) within
           (pushed _ _ _ (driver ++ name ++ attempts ++ label ++ truth) times
           (pushed _ _ _ (driver ++ name ++ attempts ++ label) truth
           (pushed _ _ _ (driver ++ name ++ attempts) label
@@ -32,5 +34,6 @@ returns c =
           c.in_ok-push_str-3.ensures.bytes)
           c.in_ok-push_truth.ensures.text)
           c.in_ok-push_times.ensures.text)
-          c.in_ok-writeln.ensures.bytes;
+          c.in_ok-push_within.ensures.text)
+          c.in_ok-push_steps.ensures.text;
     }

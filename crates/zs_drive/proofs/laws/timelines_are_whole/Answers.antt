@@ -4,7 +4,9 @@ use Rattle.zs_drive.proofs.Records.{timeline_of-settled}
 use Rattle.zs_drive.proofs.laws.timelines_are_whole.Goals as goal
 
 pub returns-clause-waits : goal.returns-clause-waits
-returns-clause-waits c job ticks script clock = (timeline_of-settled job ticks script (max_tick + 1) (omega arith) clock.bounded).0
+returns-clause-waits c job ticks script clock =
+    (timeline_of-settled job ticks script (max_tick + 1) (omega arith) clock.bounded).0
 
 pub returns-clause-ended : goal.returns-clause-ended
-returns-clause-ended c job ticks script clock = (timeline_of-settled job ticks script (max_tick + 1) (omega arith) clock.bounded).1
+returns-clause-ended c job ticks script clock =
+    (timeline_of-settled job ticks script (max_tick + 1) (omega arith) clock.bounded).1

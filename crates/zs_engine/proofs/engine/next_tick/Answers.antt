@@ -5,5 +5,6 @@ use Rattle.zs_engine.proofs.engine.next_tick.Goals as goal
 
 pub returns : goal.returns
 returns c = record {
-  value = c.tick.ensures.value ∙ first_tick-is c.args.clock.now c.in_ok-due.field-0 ∙ ap (λ (due : Option ℕ). next_of (ticks_of c.args.clock.now) due) c.in_ok-due.ensures.value;
+  value = c.tick.ensures.value ∙ first_tick-is c.args.clock.now c.in_ok-due.field-0
+      ∙ ap (λ (due : Option ℕ). next_of (ticks_of c.args.clock.now) due) c.in_ok-due.ensures.value;
 }

@@ -3,4 +3,5 @@ use Rattle.zs_pool.proofs.Cuts.{Cutting}
 use Rattle.zs_pool.proofs.rounds.cut_into.Given as goal
 
 abbrev pub invariant-loop-number : goal.invariant-loop-number
-invariant-loop-number l = Cutting l.grain l.number l.fn.tasks.items l.tasks.items (reverse l.batches.items)
+invariant-loop-number l =
+    Cutting l.grain l.number l.fn.tasks.items l.tasks.items (reverse l.batches.items)

@@ -4,12 +4,24 @@ use Rattle.zs_pool.proofs.ShelfMoves.{takes, learns, drained, nothing_left}
 use Rattle.zs_pool.proofs.shelf.drain.Goals as goal
 
 pub pop_as-requires : goal.pop_as-requires
-pop_as-requires g c = record { queue = c.loop.invariant.0; rule = (takes _ _ (let e = c.loop.invariant.1.0 in omega arith), learns _ _) }
+pop_as-requires g c = record {
+  queue = c.loop.invariant.0;
+  rule = (takes _ _ (let e = c.loop.invariant.1.0 in omega arith), learns _ _);
+}
 
 pub loop-preserved : goal.loop-preserved
 loop-preserved g c =
-    let h = c.in-Some-pop_as.ensures in let p = c.in_ok-push-in-Some-pop_as.ensures in let was = c.loop.invariant in
-    ((h.queue.0 ∙ was.0.0, h.queue.2 ∙ was.0.1), drained (view c.args.pass.now) (view c.loop.pass) (view c.pop_as.new.pass) c.in-Some-pop_as.message c.loop.left.items c.push.new.self.items h.rule p.items was.1)
+    let h = c.in-Some-pop_as.ensures in let p = c.in_ok-push-in-Some-pop_as.ensures in
+    let was = c.loop.invariant in (
+      (h.queue.0 ∙ was.0.0, h.queue.2 ∙ was.0.1),
+      drained (view c.args.pass.now) (view c.loop.pass) (view c.pop_as.new.pass)
+          c.in-Some-pop_as.message c.loop.left.items c.push.new.self.items h.rule p.items was.1,
+    )
 
 pub returns-in-None-pop_as : goal.returns-in-None-pop_as
-returns-in-None-pop_as g c = record { left = nothing_left (view c.args.pass.now) (view c.loop.pass) c.loop.left.items c.in-None-pop_as.ensures.rule.1 c.loop.invariant.1; memory = tt }
+returns-in-None-pop_as g c =
+    record {
+      left = nothing_left (view c.args.pass.now) (view c.loop.pass) c.loop.left.items
+          c.in-None-pop_as.ensures.rule.1 c.loop.invariant.1;
+      memory = tt;
+    }

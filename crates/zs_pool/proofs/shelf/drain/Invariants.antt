@@ -6,4 +6,5 @@ use Rattle.zs_pool.proofs.shelf.drain.Given as goal
 abbrev pub invariant-loop : goal.invariant-loop
 invariant-loop g l =
     let v = view l.pass in let first = view l.initial.pass in
-    IsPassOf l.queue l.pass × ((v.share ≡ max_moment) × (v.put ≡ first.put) × (v.taken ≡ first.taken ++ l.left.items))
+    IsPassOf l.queue l.pass
+    × ((v.share ≡ max_moment) × (v.put ≡ first.put) × (v.taken ≡ first.taken ++ l.left.items))

@@ -9,6 +9,7 @@ pub returns-clause-job : goal.returns-clause-job
 returns-clause-job c = λ earlier knows. (
   job_record c.in_ok-job.job,
   c.in_ok-job.ensures.job earlier knows,
-  ap (λ (jobs : List Job). map job_record jobs) c.in_ok-add_job.ensures.jobs ∙ map-append job_record c.args.jobs.now.items (c.in_ok-job.job ∷ []),
+  ap (λ (jobs : List Job). map job_record jobs) c.in_ok-add_job.ensures.jobs
+      ∙ map-append job_record c.args.jobs.now.items (c.in_ok-job.job ∷ []),
   c.in_ok-add_job.ensures.names earlier knows,
 )

@@ -13,13 +13,20 @@ returns-in-Ok-false-clause-fault g c =
 
 -- it can't be read
 pub returns-in-Err-clause-fault : goal.returns-in-Err-clause-fault
-returns-in-Err-clause-fault g c = rw c.line_fault.ensures.value (head-unread _ _ _ c.in-Err.fault c.in-Err.ensures.line)
+returns-in-Err-clause-fault g c =
+    rw c.line_fault.ensures.value (head-unread _ _ _ c.in-Err.fault c.in-Err.ensures.line)
 
 -- it is no head
 pub returns-clause-fault : goal.returns-clause-fault
 returns-clause-fault g c =
-    let old : Option (List ℕ) = prepend_known c.args.lines.now.buffer (g.R.Source.remaining c.args.reader.now) in
-    let now : Option (List ℕ) = prepend_known c.next_line.new.self.buffer (g.R.Source.remaining c.next_line.new.reader) in
+    let old : Option (List ℕ) =
+    prepend_known c.args.lines.now.buffer (g.R.Source.remaining c.args.reader.now) in
+    let now : Option (List ℕ) =
+    prepend_known c.next_line.new.self.buffer (g.R.Source.remaining c.next_line.new.reader) in
     let line : List ℕ = c.next_line.new.line.items in
-    let read = rw c.in-Ok-true.field-0-test at c.in-Ok-true.ensures.line in
-    (refl, λ other range. head-refused range old line c.in-Err-read_head.fault (rw c.as_slice.ensures.value at (c.in-Err-read_head.ensures.head other)) (begins old now (line ∷ []) read))
+    let read = rw c.in-Ok-true.field-0-test at c.in-Ok-true.ensures.line in (
+      refl,
+      λ other range. head-refused range old line c.in-Err-read_head.fault
+          (rw c.as_slice.ensures.value at (c.in-Err-read_head.ensures.head other))
+          (begins old now (line ∷ []) read),
+    )

@@ -12,20 +12,28 @@ loop-number-init g c = (omega arith, c.requires.clear, skipped-nothing _, λ all
 -- no line remains
 pub returns-in-Ok-false-clause-skipped : goal.returns-in-Ok-false-clause-skipped
 returns-in-Ok-false-clause-skipped g c =
-    let old : Option (List ℕ) = prepend_known c.args.lines.now.buffer (g.R.Source.remaining c.args.reader.now) in
-    let mid : Option (List ℕ) = prepend_known c.loop-number.lines.buffer (g.R.Source.remaining c.loop-number.reader) in
-    let now : Option (List ℕ) = prepend_known c.next_line.new.self.buffer (g.R.Source.remaining c.next_line.new.reader) in
+    let old : Option (List ℕ) =
+    prepend_known c.args.lines.now.buffer (g.R.Source.remaining c.args.reader.now) in
+    let mid : Option (List ℕ) =
+    prepend_known c.loop-number.lines.buffer (g.R.Source.remaining c.loop-number.reader) in
+    let now : Option (List ℕ) =
+    prepend_known c.next_line.new.self.buffer (g.R.Source.remaining c.next_line.new.reader) in
     let read = rw c.in-Ok-false.field-0-test at c.in-Ok-false.ensures.line in
-    skipped-all c.loop-number.number c.args.count old mid now c.loop-number.invariant.0 c.loop-number.invariant.2 read.0 read.1
+    skipped-all c.loop-number.number c.args.count old mid now c.loop-number.invariant.0
+    c.loop-number.invariant.2 read.0 read.1
 
 -- one line more
 pub loop-number-preserved : goal.loop-number-preserved
 loop-number-preserved g c =
-    let old : Option (List ℕ) = prepend_known c.args.lines.now.buffer (g.R.Source.remaining c.args.reader.now) in
-    let mid : Option (List ℕ) = prepend_known c.loop-number.lines.buffer (g.R.Source.remaining c.loop-number.reader) in
-    let now : Option (List ℕ) = prepend_known c.next_line.new.self.buffer (g.R.Source.remaining c.next_line.new.reader) in
+    let old : Option (List ℕ) =
+    prepend_known c.args.lines.now.buffer (g.R.Source.remaining c.args.reader.now) in
+    let mid : Option (List ℕ) =
+    prepend_known c.loop-number.lines.buffer (g.R.Source.remaining c.loop-number.reader) in
+    let now : Option (List ℕ) =
+    prepend_known c.next_line.new.self.buffer (g.R.Source.remaining c.next_line.new.reader) in
     let line : List ℕ = c.next_line.new.line.items in
-    let took : Took mid now (line ∷ []) = rw c.in-Ok-true.field-0-test at c.in-Ok-true.ensures.line in (
+    let took : Took mid now (line ∷ []) =
+    rw c.in-Ok-true.field-0-test at c.in-Ok-true.ensures.line in (
       omega (arith, c.loop-number-test.true),
       clear-at-ok _ _ _ c.in-Ok-true.ensures.marks.0,
       skipped-more c.loop-number.number old mid now line c.loop-number.invariant.2 took,
@@ -33,4 +41,5 @@ loop-number-preserved g c =
     )
 
 pub returns-in-Ok-false-clause-sums : goal.returns-in-Ok-false-clause-sums
-returns-in-Ok-false-clause-sums g c = λ all is. c.in-Ok-false.ensures.sums all (c.loop-number.invariant.3 all is)
+returns-in-Ok-false-clause-sums g c =
+    λ all is. c.in-Ok-false.ensures.sums all (c.loop-number.invariant.3 all is)

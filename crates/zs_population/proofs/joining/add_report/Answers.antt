@@ -1,4 +1,4 @@
-use Rattle.std.proofs.Common.{◌≡◌, refl}
+use Rattle.std.proofs.Common.{refl}
 use Rattle.std.proofs.lemmas.Result.{err_from_is_err_and}
 use Rattle.zs_population.specs.Parts.{part_record}
 use Rattle.zs_population.proofs.AddLemmas.{known-part}
@@ -14,7 +14,8 @@ returns-in_err-joined-clause-fault g c =
       (
         part_record c.in-Ok-next_part.part,
         (
-          known-part c.args.sums.now (g.F.Files.contents c.args.files.now c.args.path.now) c.in-Ok.report.items (part_record c.in-Ok-next_part.part) c.in-Ok.ensures.bytes
+          known-part c.args.sums.now (g.F.Files.contents c.args.files.now c.args.path.now)
+              c.in-Ok.report.items (part_record c.in-Ok-next_part.part) c.in-Ok.ensures.bytes
               (rw c.as_slice.ensures.value at c.in-Ok-next_part.ensures.part),
           c.in-Ok-next_part.ensures.next,
         ),
@@ -27,7 +28,8 @@ pub returns-clause-added : goal.returns-clause-added
 returns-clause-added g c = (
   part_record c.in-Ok-next_part.part,
   (
-    known-part c.args.sums.now (g.F.Files.contents c.args.files.now c.args.path.now) c.in-Ok.report.items (part_record c.in-Ok-next_part.part) c.in-Ok.ensures.bytes
+    known-part c.args.sums.now (g.F.Files.contents c.args.files.now c.args.path.now)
+        c.in-Ok.report.items (part_record c.in-Ok-next_part.part) c.in-Ok.ensures.bytes
         (rw c.as_slice.ensures.value at c.in-Ok-next_part.ensures.part),
     c.in-Ok-next_part.ensures.next,
   ),

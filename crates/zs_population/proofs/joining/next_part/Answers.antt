@@ -5,4 +5,6 @@ use Rattle.zs_population.proofs.joining.next_part.Goals as goal
 
 -- the polls can't be added
 pub returns-in-None-clause-fault : goal.returns-in-None-clause-fault
-returns-in-None-clause-fault c = too-many c.args.sums.now c.args.report.now (part_record c.in_ok-part.part) c.args.joined.now.polls c.in_ok-part.ensures.part (omega (arith, c.in-None.ensures))
+returns-in-None-clause-fault c =
+    too-many c.args.sums.now c.args.report.now (part_record c.in_ok-part.part)
+    c.args.joined.now.polls c.in_ok-part.ensures.part (omega (arith, c.in-None.ensures))

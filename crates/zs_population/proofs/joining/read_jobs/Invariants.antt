@@ -12,8 +12,10 @@ abbrev pub invariant-loop-names : goal.invariant-loop-names
 invariant-loop-names g l = record {
   reader : g.R.Source.mark l.reader ≡ false;
   few : l.count ≤ max_population;
-  read : HasRead (g.R.Source.remaining l.fn.reader) (prepend_known l.lines.buffer (g.R.Source.remaining l.reader)) l.names l.count;
-  sums : IfSome (g.R.Source.remaining l.fn.reader) (λ known. IsSummed (lines_of known) l.lines (prepend_known l.lines.buffer (g.R.Source.remaining l.reader)));
+  read : HasRead (g.R.Source.remaining l.fn.reader)
+      (prepend_known l.lines.buffer (g.R.Source.remaining l.reader)) l.names l.count;
+  sums : IfSome (g.R.Source.remaining l.fn.reader) (λ known. IsSummed (lines_of known) l.lines
+      (prepend_known l.lines.buffer (g.R.Source.remaining l.reader)));
 }
 
 abbrev pub decreases-loop-names : goal.decreases-loop-names

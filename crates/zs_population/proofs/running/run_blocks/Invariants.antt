@@ -16,9 +16,13 @@ invariant-loop-names g l = record {
   within : l.blocks * block_jobs ≤ l.part.range.count;
   polled : l.polls ≤ l.blocks * 2 ^ 64;
   told : l.sent ≤ l.blocks * 2 ^ 64;
-  done : IsDone (head_record l.part.head).clock l.part.range.first (prepend_known l.fn.lines.buffer (g.R.Source.remaining l.fn.reader)) (prepend_known l.lines.buffer (g.R.Source.remaining l.reader))
-      l.names l.blocks l.polls l.sent (g.W.Drain.contents l.fn.writer) (g.W.Drain.contents l.writer) l.digest;
-  summed : KeepsSums l.fn.lines (prepend_known l.fn.lines.buffer (g.R.Source.remaining l.fn.reader)) l.lines (prepend_known l.lines.buffer (g.R.Source.remaining l.reader));
+  done : IsDone (head_record l.part.head).clock l.part.range.first
+      (prepend_known l.fn.lines.buffer (g.R.Source.remaining l.fn.reader))
+      (prepend_known l.lines.buffer (g.R.Source.remaining l.reader))
+      l.names l.blocks l.polls l.sent (g.W.Drain.contents l.fn.writer)
+      (g.W.Drain.contents l.writer) l.digest;
+  summed : KeepsSums l.fn.lines (prepend_known l.fn.lines.buffer (g.R.Source.remaining l.fn.reader))
+      l.lines (prepend_known l.lines.buffer (g.R.Source.remaining l.reader));
   on : l.digest.is_on ≡ l.part.range.is_part;
   whole : IsWhole l.blocks (g.W.Drain.flushed l.writer) (l.writer ≡ l.fn.writer);
 }

@@ -12,6 +12,7 @@ invariant-loop-value l = record {
   number : length l.jobs.items ≡ l.number;
   count : l.number + length (into_iter_items l.value-iterator) ≡ length l.fn.values.items;
   names : KnowsNames l.names (names_of l.jobs.items);
-  jobs : after (map job_record l.jobs.items) (jobs_of l.number (names_of l.jobs.items) (map view (into_iter_items l.value-iterator)))
+  jobs : after (map job_record l.jobs.items)
+      (jobs_of l.number (names_of l.jobs.items) (map view (into_iter_items l.value-iterator)))
       ≡ jobs_of 0 [] (map view l.fn.values.items);
 }

@@ -10,5 +10,7 @@ invariant-loop-i l = record {
   stands : StandsFor l.compiled (history_of (take l.i l.pairs));
   term : compiled_term l.compiled ≡ l.fn.checked;
   one_each : length l.answers.items ≡ l.i;
-  answers : (j : ℕ) (d : Stepped) → j < l.i → IsAnswer (schedule_of l.fn.checked) (history_of (take (j + 1) l.pairs)) (get_or l.answers.items j d);
+  answers : (j : ℕ) (d : Stepped) → j < l.i →
+      IsAnswer (schedule_of l.fn.checked) (history_of (take (j + 1) l.pairs))
+      (get_or l.answers.items j d);
 }

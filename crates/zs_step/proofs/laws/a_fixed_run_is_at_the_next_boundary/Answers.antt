@@ -10,6 +10,8 @@ pub returns : goal.returns
 returns c = record {
   first = λ n x p pos b. ap (λ m. Next (saturated m)) (first-boundary n p.0 x pos b);
   value = λ n x p q h pos r b. ap (λ m. Next m)
-      (run_after-is n (first_moment (q ∷ h)) (next_run n (q ∷ h)) p.0 x pos (first-last (p ∷ (q ∷ h)) r.order) r.timely b);
-  behind = λ n p q h late. ap (λ m. Next m) (run_after-behind n (first_moment (q ∷ h)) (next_run n (q ∷ h)) p.0 late);
+      (run_after-is n (first_moment (q ∷ h)) (next_run n (q ∷ h)) p.0 x pos
+      (first-last (p ∷ (q ∷ h)) r.order) r.timely b);
+  behind = λ n p q h late. ap (λ m. Next m)
+      (run_after-behind n (first_moment (q ∷ h)) (next_run n (q ∷ h)) p.0 late);
 }

@@ -2,7 +2,9 @@ use Rattle.std.proofs.Common.{◌≡◌, ◌∷◌, [], Option, length, refl, ap
 use Rattle.zs_term.specs.Saturating.{saturated}
 use Rattle.zs_step.specs.declared.leaf.Past.{Past}
 use Rattle.zs_step.specs.declared.leaf.Leaf.{Leaf}
-use Rattle.zs_step.specs.declared.leaf.Leaf.TheVariants.{Forever, Recurs, Spaced, Fixed, Exponential, Fibonacci, Identity, Elapsed, Linear, Windowed}
+use Rattle.zs_step.specs.declared.leaf.Leaf.TheVariants.{Forever, Recurs, Spaced, Fixed}
+use Rattle.zs_step.specs.declared.leaf.Leaf.TheVariants.{Exponential, Fibonacci, Identity, Elapsed}
+use Rattle.zs_step.specs.declared.leaf.Leaf.TheVariants.{Linear, Windowed}
 use Rattle.zs_step.specs.History.{History}
 use Rattle.zs_step.specs.LeafState.{next_count, past_of}
 use Rattle.zs_step.specs.Laws.{before_at, HasCounted}
@@ -19,13 +21,15 @@ leaf-counted : (l : Leaf) (h : History) → HasCounted l h
 leaf-counted (Forever b) h = λ is. ap next_count is ∙ next_count-is h
 leaf-counted (Recurs k b) h = λ is. ap next_count is ∙ next_count-is h
 leaf-counted (Spaced d b) h = λ is. ap next_count is ∙ next_count-is h
-leaf-counted (Fixed p past run) h = λ is. ap (λ (q : Option Past). next_count (before_at q)) is.0 ∙ past-counted h
+leaf-counted (Fixed p past run) h =
+    λ is. ap (λ (q : Option Past). next_count (before_at q)) is.0 ∙ past-counted h
 leaf-counted (Exponential b f x y) h = λ _. tt
 leaf-counted (Fibonacci o x y) h = λ _. tt
 leaf-counted (Identity x) h = λ _. tt
 leaf-counted (Elapsed m x) h = λ _. tt
 leaf-counted (Linear n x) h = λ _. tt
-leaf-counted (Windowed p past) h = λ is. ap (λ (q : Option Past). next_count (before_at q)) is ∙ past-counted h
+leaf-counted (Windowed p past) h =
+    λ is. ap (λ (q : Option Past). next_count (before_at q)) is ∙ past-counted h
 
 pub returns : goal.returns
 returns c = record { value = next_count-is; past = λ p h. refl; counted = leaf-counted }

@@ -6,5 +6,6 @@ use Rattle.zs_step.proofs.laws.a_window_ends_at_the_next_boundary.Goals as goal
 
 pub returns : goal.returns
 returns c = record {
-  value = λ n x h pos order b. ap (λ m. Next m) (window_end-is n (first_moment h) (last_moment h) x pos (first-last h order) b);
+  value = λ n x h pos order b. ap (λ m. Next m)
+      (window_end-is n (first_moment h) (last_moment h) x pos (first-last h order) b);
 }

@@ -10,5 +10,6 @@ use Rattle.zs_step.proofs.laws.recurs_is_forever_below_its_limit.Goals as goal
 pub returns : goal.returns
 returns c = record {
   value = λ k h within.
-      ap (λ b. answer (number (saturated (length (earlier h)))) (only_if b (Next (last_moment h)))) (below-saturated (length (earlier h)) k within);
+      ap (λ b. answer (number (saturated (length (earlier h)))) (only_if b (Next (last_moment h))))
+      (below-saturated (length (earlier h)) k within);
 }

@@ -1,5 +1,6 @@
 use Rattle.zs_step.specs.Answer.{answer_of}
-use Rattle.zs_step.proofs.FirstDone.{none-goes_on, goes_on-none, found-is-first, first-is-found, sequel-found, sequel-before}
+use Rattle.zs_step.proofs.FirstDone.{none-goes_on, goes_on-none, found-is-first, first-is-found}
+use Rattle.zs_step.proofs.FirstDone.{sequel-found, sequel-before}
 use Rattle.zs_step.proofs.laws.second_part_begins_where_the_first_is_done.Goals as goal
 
 pub returns : goal.returns

@@ -10,5 +10,7 @@ loop-preserved c =
     let m : suc (suc c.loop.counter) ≡ suc (c.loop.counter + 1) = omega arith in
     record {
       delay = c.loop.invariant.next ∙ ap (λ k. saturated (c.args.one * fibonacci_number k)) n;
-      next = fibonacci_number-turn c.args.one c.loop.counter c.loop.delay c.loop.next c.saturating_add-sum.result c.loop.invariant.delay c.loop.invariant.next c.saturating_add-sum.ensures ∙ ap (λ k. saturated (c.args.one * fibonacci_number k)) m;
+      next = fibonacci_number-turn c.args.one c.loop.counter c.loop.delay c.loop.next
+          c.saturating_add-sum.result c.loop.invariant.delay c.loop.invariant.next
+          c.saturating_add-sum.ensures ∙ ap (λ k. saturated (c.args.one * fibonacci_number k)) m;
     }

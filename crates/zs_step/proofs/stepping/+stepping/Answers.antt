@@ -10,7 +10,8 @@ step_node-returns-in-Both-clause-counts t c =
 
 pub step_node-returns-in-Either-clause-counts : goal.step_node-returns-in-Either-clause-counts
 step_node-returns-in-Either-clause-counts t c =
-    rw c.in-Either.is (rw c.deref_mut-in-Either.ensures.value at (c.step_either.ensures.counts (record {
+    rw c.in-Either.is
+    (rw c.deref_mut-in-Either.ensures.value at (c.step_either.ensures.counts (record {
       ptr = c.in-Either.parts.ptr;
       alloc = c.in-Either.parts.alloc;
       value = tt {0};
@@ -18,7 +19,8 @@ step_node-returns-in-Either-clause-counts t c =
 
 pub step_node-returns-in-AndThen-clause-counts : goal.step_node-returns-in-AndThen-clause-counts
 step_node-returns-in-AndThen-clause-counts t c =
-    rw c.in-AndThen.is (rw c.deref_mut-in-AndThen.ensures.value at (c.step_and_then.ensures.counts (record {
+    rw c.in-AndThen.is
+    (rw c.deref_mut-in-AndThen.ensures.value at (c.step_and_then.ensures.counts (record {
       ptr = c.in-AndThen.parts.ptr;
       alloc = c.in-AndThen.parts.alloc;
       value = tt {0};
@@ -26,7 +28,8 @@ step_node-returns-in-AndThen-clause-counts t c =
 
 pub step_node-returns-in-ResetWhen-clause-counts : goal.step_node-returns-in-ResetWhen-clause-counts
 step_node-returns-in-ResetWhen-clause-counts t c =
-    rw c.in-ResetWhen.is (rw c.deref_mut-in-ResetWhen.ensures.value at (c.step_reset_when.ensures.counts (record {
+    rw c.in-ResetWhen.is
+    (rw c.deref_mut-in-ResetWhen.ensures.value at (c.step_reset_when.ensures.counts (record {
       ptr = c.in-ResetWhen.part.ptr;
       alloc = c.in-ResetWhen.part.alloc;
       value = tt {0};

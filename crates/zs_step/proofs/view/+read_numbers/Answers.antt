@@ -7,5 +7,6 @@ use Rattle.zs_step.proofs.view.+read_numbers.Goals as goal
 
 pub returns-in-AndThen : goal.returns-in-AndThen
 returns-in-AndThen t c = record {
-  value = subst (IsNumbers Side) (sym (ap last_output c.in-AndThen.is) ∙ c.source.ensures.value) (side_numbers c.in-AndThen.done _ _);
+  value = subst (IsNumbers Side) (sym (ap last_output c.in-AndThen.is) ∙ c.source.ensures.value)
+      (side_numbers c.in-AndThen.done _ _);
 }

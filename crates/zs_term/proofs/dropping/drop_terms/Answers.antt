@@ -7,4 +7,6 @@ pub loop-form-preserved : goal.loop-form-preserved
 loop-form-preserved c =
     let l = c.loop-form in
     let inside : l.form-index < length c.args.forms.now = omega arith in
-    ap (λ k. slice_set l.forms l.form-index (without_term k)) (sym c.form-item.is) ∙ map_over_more without_term c.args.forms.now l.forms l.form-index c.form-item.result inside l.invariant c.form-item.is
+    ap (λ k. slice_set l.forms l.form-index (without_term k)) (sym c.form-item.is)
+    ∙ map_over_more without_term c.args.forms.now l.forms l.form-index c.form-item.result inside
+    l.invariant c.form-item.is

@@ -4,4 +4,9 @@ use Rattle.zs_term.proofs.Sizes.{depth-positive, weight-positive}
 use Rattle.zs_term.proofs.limits.+room_left.Goals as goal
 
 pub returns-then-levels-eq0-clause-none : goal.returns-then-levels-eq0-clause-none
-returns-then-levels-eq0-clause-none t c = grind (arith, depth-positive (schedule_of c.args.term.now), weight-positive (schedule_of c.args.term.now))
+returns-then-levels-eq0-clause-none t c =
+    grind (
+      arith,
+      depth-positive (schedule_of c.args.term.now),
+      weight-positive (schedule_of c.args.term.now),
+    )

@@ -8,4 +8,5 @@ Out::copy-returns-in_ok-copy-in-Items t c = search (rules, the_lemmas, stored_ou
 
 pub copy_all-loop-out-preserved : goal.copy_all-loop-out-preserved
 copy_all-loop-out-preserved t c =
-    outputs_of-copied _ _ _ _ _ _ c.in_ok-push.ensures.items c.in_ok-copy.ensures.ok c.out-item.is c.loop-out-test.true c.loop-out.invariant
+    outputs_of-copied _ _ _ _ _ _ c.in_ok-push.ensures.items c.in_ok-copy.ensures.ok c.out-item.is
+    c.loop-out-test.true c.loop-out.invariant

@@ -10,7 +10,8 @@ returns-in-Ok-clause-planned c small t program =
 
 pub returns-in-Ok-clause-fair : goal.returns-in-Ok-clause-fair
 returns-in-Ok-clause-fair c none t program h planned kept all =
-    let told = (c.plan_turn.ensures.planned t (c.in-Ok.ensures.ok t program)).plan h planned kept all in
+    let told = (c.plan_turn.ensures.planned t (c.in-Ok.ensures.ok t program)).plan h
+    planned kept all in
     turn-fair t h planned c.args.turn.now c.plan_turn.new.state c.plan_turn.result
     c.plan_turn.new.begin c.in-Ok.ensures.counted.draw told none
 

@@ -13,4 +13,7 @@ loop-word-preserved c =
 
 pub returns : goal.returns
 unfolding check_word
-returns c = record { value = c.loop-word.invariant ∙ ap (fold check_more check_start) (take_all c.loop-word.word-index c.args.words.now (omega arith)) }
+returns c = record {
+  value = c.loop-word.invariant ∙ ap (fold check_more check_start) (take_all
+      c.loop-word.word-index c.args.words.now (omega arith));
+}

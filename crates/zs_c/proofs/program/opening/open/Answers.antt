@@ -1,7 +1,8 @@
 use Rattle.std.proofs.Common.{sym, ◌∙◌, arith}
 use Rattle.zs_c.proofs.Codes.{program-checked, program-fits, program-some}
 use Rattle.zs_c.proofs.program.opening.open.Goals as goal
-use Rattle.zs_c.proofs.program.opening.open.Goals.{then-size-eq0-via-then-size-eq0, then-size-eq0-via-else-size-eq0+then-program-size}
+use Rattle.zs_c.proofs.program.opening.open.Goals.{then-size-eq0-via-then-size-eq0}
+use Rattle.zs_c.proofs.program.opening.open.Goals.{then-size-eq0-via-else-size-eq0+then-program-size}
 
 -- it has no code, or fewer words than its code
 pub returns-then-size-eq0-clause-none : goal.returns-then-size-eq0-clause-none
@@ -11,7 +12,8 @@ returns-then-size-eq0-clause-none c t is =
     let fits = program-fits program t is in
     absurd (elim c.then-size-eq0.branch [
       | then-size-eq0-via-then-size-eq0 w ↦ omega (arith, some, w.if-size-eq0.true)
-      | then-size-eq0-via-else-size-eq0+then-program-size w ↦ omega (arith, fits, w.if-program-size.true)
+      | then-size-eq0-via-else-size-eq0+then-program-size w ↦
+          omega (arith, fits, w.if-program-size.true)
     ])
 
 -- it has another check word

@@ -8,7 +8,8 @@ use Rattle.zs_drive.specs.Timeline.{ended_attempt}
 use Rattle.zs_drive.specs.Progress.{job_in}
 use Rattle.zs_drive.proofs.Timing.{AllContinued-append}
 use Rattle.zs_drive.proofs.Steps.{stops, waits, restarts}
-use Rattle.zs_drive.proofs.Advancing.{ran, end-advances, restart-advances, asked-answer, IsStepped-asked}
+use Rattle.zs_drive.proofs.Advancing.{ran, end-advances, restart-advances, asked-answer}
+use Rattle.zs_drive.proofs.Advancing.{IsStepped-asked}
 use Rattle.zs_drive.proofs.progress.Progress.follow.Goals as goal
 
 pub returns-in-Stop-clause-ok : goal.returns-in-Stop-clause-ok
@@ -17,9 +18,12 @@ returns-in-Stop-clause-ok c =
     let r = ran p c.args.outcome p.phase refl c.requires.progress c.requires.running in
     let output = output_of c.args.out in
     let answered = asked-answer p c.args.outcome r _ (rw c.in-Stop.is at c.requires.answer) in
-    end-advances p c.end.new.self c.args.outcome (Some (answer output c.args.decision)) (Over c.end_by_schedule-ending.result) r
+    end-advances p c.end.new.self c.args.outcome (Some (answer output c.args.decision))
+    (Over c.end_by_schedule-ending.result) r
     c.requires.progress c.requires.script c.end.ensures.rest c.end.ensures.ended
-    (rw (c.in-Stop.is, c.end_by_schedule-ending.ensures.value) (stops (job_in p) p.seen r.others r.s r.w c.args.outcome r.all r.soon r.own c.requires.goes_on output answered)) tt tt
+    (rw (c.in-Stop.is, c.end_by_schedule-ending.ensures.value)
+    (stops (job_in p) p.seen r.others r.s r.w c.args.outcome r.all r.soon r.own
+    c.requires.goes_on output answered)) tt tt
 
 pub returns-in-Next-clause-ok : goal.returns-in-Next-clause-ok
 returns-in-Next-clause-ok c =
@@ -29,12 +33,16 @@ returns-in-Next-clause-ok c =
     let step = answer output (Next c.in-Next.due) in
     let answered = asked-answer p c.args.outcome r step (rw c.in-Next.is at c.requires.answer) in
     end-advances p c.end-in-Next.new.self c.args.outcome (Some step) (Waiting c.in-Next.due) r
-    c.requires.progress c.requires.script c.end-in-Next.ensures.rest (rw c.in-Next.is at c.end-in-Next.ensures.ended)
-    (waits (job_in p) p.seen r.others r.s r.w c.args.outcome r.all r.soon r.own c.requires.goes_on output c.in-Next.due answered c.if-due-self.true)
-    (AllContinued-append r.others (ended_attempt r.s p.seen c.args.outcome (Some step)) r.all refl) (IsStepped-asked p c.args.outcome r (Some step) c.requires.state)
+    c.requires.progress c.requires.script c.end-in-Next.ensures.rest
+    (rw c.in-Next.is at c.end-in-Next.ensures.ended)
+    (waits (job_in p) p.seen r.others r.s r.w c.args.outcome r.all r.soon r.own c.requires.goes_on
+    output c.in-Next.due answered c.if-due-self.true)
+    (AllContinued-append r.others (ended_attempt r.s p.seen c.args.outcome (Some step)) r.all refl)
+    (IsStepped-asked p c.args.outcome r (Some step) c.requires.state)
 
 -- combines two facts about a success
-from_both : {T E : Type 0} {A B C : Type 0} (r : Result T E) → OnOk r A → OnOk r B → (A → B → C) → OnOk r C
+from_both : {T E : Type 0} {A B C : Type 0} (r : Result T E) → OnOk r A → OnOk r B →
+    (A → B → C) → OnOk r C
 from_both (Ok x) a b f = f a b
 from_both (Err e) a b f = tt
 
@@ -47,5 +55,7 @@ returns-in-Next-2-clause-ok c =
     let answered = asked-answer p c.args.outcome r step (rw c.in-Next.is at c.requires.answer) in
     from_both c.restart.result c.restart.ensures.rest (rw c.in-Next.is at c.restart.ensures.ended)
     (λ rest ended.
-    restart-advances p c.restart.new.self c.args.outcome (Some step) r refl c.requires.progress c.requires.script c.requires.state rest ended
-    (restarts (job_in p) p.seen r.others r.s r.w c.args.outcome r.all r.soon r.own c.requires.goes_on output c.in-Next.due answered (omega arith)))
+    restart-advances p c.restart.new.self c.args.outcome (Some step) r refl c.requires.progress
+    c.requires.script c.requires.state rest ended
+    (restarts (job_in p) p.seen r.others r.s r.w c.args.outcome r.all r.soon r.own
+    c.requires.goes_on output c.in-Next.due answered (omega arith)))

@@ -9,5 +9,6 @@ abbrev pub invariant-loop-job : goal.invariant-loop-job
 invariant-loop-job g l = record {
   new : IsNew l.self;
   clock : l.self.clock ≡ l.fn.self.clock;
-  jobs : jobs_in l.self.slots.items ++ map job_record (into_iter_items l.job-iterator) ≡ map job_record l.fn.jobs.items;
+  jobs : jobs_in l.self.slots.items ++ map job_record (into_iter_items l.job-iterator)
+      ≡ map job_record l.fn.jobs.items;
 }

@@ -1,6 +1,6 @@
-use Rattle.std.proofs.Common.{◌≡◌, ◌∙◌, [], refl, sym, arith}
-use Rattle.std.specs.Vec.Iter.{into_iter_items}
-use Rattle.std.proofs.lemmas.List.{nil_from_length}
+use Rattle.std.proofs.Common.{◌∙◌, ap, refl, sym, arith}
+use Rattle.std.specs.Vec.Iter.{drain_items}
+use Rattle.std.proofs.lemmas.List.{take_all}
 use Rattle.std.proofs.lemmas.Map.Keys.{IsStrictlyIncreasing-from_sorted}
 use Rattle.zs_engine.specs.Times.{ticks_of}
 use Rattle.zs_engine.specs.Rounds.{jobs_in}
@@ -13,24 +13,30 @@ use Rattle.zs_engine.proofs.engine.Engine.run_round.Goals.{In-Some}
 use Rattle.zs_engine.proofs.engine.Engine.run_round.Goals as goal
 
 pub take_tasks-requires-clause-filled : goal.take_tasks-requires-clause-filled
-take_tasks-requires-clause-filled g c = due-filled c.requires.due.begins c.args.numbers.now (λ i h. h)
+take_tasks-requires-clause-filled g c =
+    due-filled c.requires.due.begins c.args.numbers.now (λ i h. h)
 
 pub take_tasks-requires-clause-distinct : goal.take_tasks-requires-clause-distinct
-take_tasks-requires-clause-distinct g c = IsDistinct-sorted c.args.numbers.now c.requires.due.in_order
+take_tasks-requires-clause-distinct g c =
+    IsDistinct-sorted c.args.numbers.now c.requires.due.in_order
 
 pub round_in-requires-clause-few : goal.round_in-requires-clause-few
-round_in-requires-clause-few g c = λ _ _. tasks-few c.args.self.now c.requires.due c.in_ok-due.due.items c.in_ok-due.ensures.picks
+round_in-requires-clause-few g c =
+    λ _ _. tasks-few c.args.self.now c.requires.due c.in_ok-due.due.items c.in_ok-due.ensures.picks
 
 pub round_in-requires-clause-rising : goal.round_in-requires-clause-rising
 round_in-requires-clause-rising g c = λ _ _.
-    rw (due-numbers c.requires.due.begins c.in_ok-due.due.items c.in_ok-due.ensures.picks) (IsStrictlyIncreasing-from_sorted c.args.numbers.now c.requires.due.in_order)
+    rw (due-numbers c.requires.due.begins c.in_ok-due.due.items c.in_ok-due.ensures.picks)
+    (IsStrictlyIncreasing-from_sorted c.args.numbers.now c.requires.due.in_order)
 
 pub round_in-requires-clause-pollable : goal.round_in-requires-clause-pollable
-round_in-requires-clause-pollable g c = λ _ _. due-all c.requires.due.begins c.in_ok-due.due.items c.in_ok-due.ensures.picks
+round_in-requires-clause-pollable g c =
+    λ _ _. due-all c.requires.due.begins c.in_ok-due.due.items c.in_ok-due.ensures.picks
 
 pub round_in-requires-clause-allowance : goal.round_in-requires-clause-allowance
 round_in-requires-clause-allowance g c = λ _ _.
-    let few = tasks-few c.args.self.now c.requires.due c.in_ok-due.due.items c.in_ok-due.ensures.picks in
+    let few = tasks-few c.args.self.now c.requires.due c.in_ok-due.due.items
+    c.in_ok-due.ensures.picks in
     allowed c.args.self.now c.requires.due c.args.cut.workers _ c.args.cut.within.1 few
 
 pub loop-task-init : goal.loop-task-init
@@ -47,20 +53,29 @@ loop-task-init g c =
           begins = rw numbers due.begins;
           distinct = rw numbers (IsDistinct-sorted c.args.numbers.now due.in_order);
           picks = rw numbers picks;
-          rest_is = c.into_iter-task-iterator.ensures.into_iter_gives.0 ∙ c.in-Ok.ensures.tasks;
+          rest_is = ap drain_items c.into_iter-task-iterator.ensures.into_iter_gives
+              ∙ c.drain-task-items.ensures.rest ∙ take_all _ c.in-Ok.polled.items
+              (omega (arith, c.in-Ok.polled.ok)) ∙ c.in-Ok.ensures.tasks;
           out = rw numbers c.in_ok-due.ensures.emptied;
           same_jobs = refl;
           counted = c.in-Ok.ensures.count;
         },
       );
-      runs = Runs-counted _ due.runs (c.in-Ok.ensures.tally ∙ sym due.runs.seated, c.in-Ok.ensures.count, c.in-Ok.ensures.allowance);
+      runs = Runs-counted _ due.runs (
+        c.in-Ok.ensures.tally ∙ sym due.runs.seated,
+        c.in-Ok.ensures.count,
+        c.in-Ok.ensures.allowance,
+      );
       clock = refl;
     }
 
 -- the task that is put back next
 next_task : (g : Over) (c : In-Some g)
-    → Next (ticks_of c.args.self.now.clock) c.args.now (jobs_in c.args.self.now.slots.items) c.loop-task.self.slots.items c.loop-task.self.agenda c.in-Some.task (into_iter_items c.next.new.self) c.loop-task.self.seat.count
-next_task g c = settling-next c.loop-task.invariant.settling.0 _ _ (rw c.in-Some.ensures.steps.0 at c.loop-task.invariant.settling.1)
+    → Next (ticks_of c.args.self.now.clock) c.args.now (jobs_in c.args.self.now.slots.items)
+    c.loop-task.self.slots.items c.loop-task.self.agenda c.in-Some.task
+    (drain_items c.next.new.self) c.loop-task.self.seat.count
+next_task g c = settling-next c.loop-task.invariant.settling.0 _ _
+    (rw c.in-Some.ensures.steps.0 at c.loop-task.invariant.settling.1)
 
 pub put_back-requires-clause-slot : goal.put_back-requires-clause-slot
 put_back-requires-clause-slot g c =
@@ -89,10 +104,9 @@ loop-task-preserved g c =
 
 pub returns : goal.returns
 returns g c =
-    let it = c.loop-task.task-iterator in
-    let none : into_iter_items it ≡ [] = nil_from_length (into_iter_items it) (omega (arith, it.rest.ok.0, c.in-None.ensures.steps.0)) in
     let invariant = c.loop-task.invariant in
-    let end = settling-end invariant.settling.0 (rw none at invariant.settling.1) in
+    let end = settling-end invariant.settling.0
+    (rw c.in-None.ensures.steps.0 at invariant.settling.1) in
     record {
       round = record {
         rests = record { runs = rw end.1 invariant.runs; rests = rw invariant.clock end.0 };

@@ -7,7 +7,8 @@ use Rattle.zs_lines.proofs.buffer.Buffer.next_line.Given as goal
 abbrev pub invariant-loop-line : goal.invariant-loop-line
 invariant-loop-line g l =
     (length l.line.items ≤ l.limit) × IsOneLine l.line.items × (g.R.Source.mark l.reader ≡ false)
-    × Consumes (prepend_known l.fn.self (g.R.Source.remaining l.fn.reader)) (prepend_known l.self (g.R.Source.remaining l.reader)) l.line.items
+    × Consumes (prepend_known l.fn.self (g.R.Source.remaining l.fn.reader))
+    (prepend_known l.self (g.R.Source.remaining l.reader)) l.line.items
 
 -- each turn but the first takes at least one byte
 abbrev pub decreases-loop-line : goal.decreases-loop-line

@@ -11,6 +11,8 @@ learn_as-requires-clause-rule c = learns _ _
 
 pub returns-clause-whole : goal.returns-clause-whole
 returns-clause-whole c =
-    let P : Claimer → Type 0 = λ p. p.share ≡ max_moment → p.none ≡ true → IsPermutation (range_with_len 0 (length p.batches)) p.taken in
+    let P : Claimer → Type 0 = λ p. p.share ≡ max_moment → p.none ≡ true →
+    IsPermutation (range_with_len 0 (length p.batches)) p.taken in
     let told = c.learn_as.ensures.rule in
-    subst P c.pass.view_is (λ whole none. whole_pass (view c.pass.inside.queue) c.pass.inside.seat c.pass.inside.none told.0 c.pass.invariant.1 told.1 c.look.ensures.settled whole none)
+    subst P c.pass.view_is (λ whole none. whole_pass (view c.pass.inside.queue) c.pass.inside.seat
+    c.pass.inside.none told.0 c.pass.invariant.1 told.1 c.look.ensures.settled whole none)

@@ -10,14 +10,21 @@ pub ruled-requires-clause-rule : goal.ruled-requires-clause-rule
 ruled-requires-clause-rule g c = begins
 
 pub loop-batch-init : goal.loop-batch-init
-loop-batch-init g c = (c.in_ok-queue.ensures.1, ([], c.into_iter-batch-iterator.ensures.into_iter_gives.0, c.in_ok-queue.ensures.3))
+loop-batch-init g c = (
+  c.in_ok-queue.ensures.1,
+  ([], c.into_iter-batch-iterator.ensures.into_iter_gives.0, c.in_ok-queue.ensures.3),
+)
 
 pub push_as-requires : goal.push_as-requires
-push_as-requires g c = record { queue = c.loop-batch.invariant.0; rule = (puts _ _ _ _ (ap (λ v. v.share) c.loop-batch.invariant.1.2), learns _ _) }
+push_as-requires g c = record {
+  queue = c.loop-batch.invariant.0;
+  rule = (puts _ _ _ _ (ap (λ v. v.share) c.loop-batch.invariant.1.2), learns _ _);
+}
 
 pub loop-batch-preserved : goal.loop-batch-preserved
 loop-batch-preserved g c =
-    let was = c.loop-batch.invariant.1 in let put : List BatchValue = was.0 in let b : BatchValue = c.in-Some.batch in
+    let was = c.loop-batch.invariant.1 in let put : List BatchValue = was.0 in
+    let b : BatchValue = c.in-Some.batch in
     let rest : List BatchValue = into_iter_items c.next.new.self in
     let same = c.in-Ok.ensures.queue in
     let told = c.in-Ok.ensures.rule in

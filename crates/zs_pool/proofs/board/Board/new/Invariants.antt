@@ -10,4 +10,5 @@ abbrev pub invariant-loop-batch : goal.invariant-loop-batch
 invariant-loop-batch g l =
     let rest = into_iter_items l.batch-iterator in
     IsPassOf l.queue l.queue_pass
-    × ((put : List BatchValue) × (put ++ rest ≡ l.fn.batches.items) × (view l.queue_pass ≡ claims max_moment put []))
+    × ((put : List BatchValue) × (put ++ rest ≡ l.fn.batches.items)
+    × (view l.queue_pass ≡ claims max_moment put []))

@@ -11,6 +11,7 @@ pub returns-clause-tasks : goal.returns-clause-tasks
 returns-clause-tasks c =
     λ now before polls.
     let sound : (k : ℕ) (t : TaskValue) → slice_get c.args.self.tasks k ≡ Some t → t.broken ≢ true =
-    λ k t at is. not_both c.broken.result c.if-broken.false (c.broken.ensures.value.1 (k, t, at, is))
+    λ k t at is. not_both c.broken.result c.if-broken.false
+    (c.broken.ensures.value.1 (k, t, at, is))
     in
     ap (λ m. m.tasks) c.self.view_is ∙ sound_polls now before c.args.self.tasks polls sound

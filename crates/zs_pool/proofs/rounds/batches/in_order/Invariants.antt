@@ -9,4 +9,5 @@ use Rattle.zs_pool.proofs.rounds.batches.in_order.Given as goal
 abbrev pub invariant-loop-slot : goal.invariant-loop-slot
 invariant-loop-slot l =
     (bs : List BatchValue) × AllZip (HasPoll l.now) bs (into_iter_items l.slot-iterator)
-    × (l.all.items ++ map (polled_at l.now) (tasks_of bs) ≡ map (polled_at l.now) (tasks_of l.batches.value.items))
+    × (l.all.items ++ map (polled_at l.now) (tasks_of bs)
+    ≡ map (polled_at l.now) (tasks_of l.batches.value.items))

@@ -11,5 +11,8 @@ push_as-requires-clause-rule g c = (puts _ _ _ _ (search rules), learns _ _)
 
 pub returns-clause-no_room : goal.returns-clause-no_room
 returns-clause-no_room g c =
-    let Q : Shelver × TableId → Type 0 = λ y. y.0.share ≡ max_moment → length y.0.put ≡ length y.0.taken + y.1.slots in
-    subst Q (λ i. (c.pass.view_is i, c.self.view_is i)) (all_full (view c.pass.inside.queue) c.self.inside.queue.cap _ c.self.inside.queue.sized.1 c.in-Err.ensures.rule.2)
+    let Q : Shelver × TableId → Type 0 =
+    λ y. y.0.share ≡ max_moment → length y.0.put ≡ length y.0.taken + y.1.slots in
+    subst Q (λ i. (c.pass.view_is i, c.self.view_is i))
+    (all_full (view c.pass.inside.queue) c.self.inside.queue.cap _ c.self.inside.queue.sized.1
+    c.in-Err.ensures.rule.2)

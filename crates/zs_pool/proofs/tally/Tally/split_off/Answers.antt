@@ -6,4 +6,5 @@ pub compare_exchange-requires : goal.compare_exchange-requires
 compare_exchange-requires c = (search rules, omega (arith, c.self.invariant.0), notes _ _ _ _)
 
 pub split_seat-seat-requires : goal.split_seat-seat-requires
-split_seat-seat-requires c = (search rules, omega (arith, c.self.invariant.0), splits _ _ (search rules))
+split_seat-seat-requires c =
+    (search rules, omega (arith, c.self.invariant.0), splits _ _ (search rules))

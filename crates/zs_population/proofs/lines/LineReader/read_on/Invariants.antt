@@ -8,8 +8,11 @@ use Rattle.zs_population.proofs.lines.LineReader.read_on.Given as goal
 abbrev pub invariant-loop-line : goal.invariant-loop-line
 invariant-loop-line g l = record {
   clear : g.R.Source.mark l.reader ≡ false;
-  sums : KeepsSums l.fn.self (prepend_known l.fn.self.buffer (g.R.Source.remaining l.fn.reader)) l.self (prepend_known l.self.buffer (g.R.Source.remaining l.reader));
-  took : (rest : List (List ℕ)) × Took (prepend_known l.fn.self.buffer (g.R.Source.remaining l.fn.reader)) (prepend_known l.self.buffer (g.R.Source.remaining l.reader)) rest;
+  sums : KeepsSums l.fn.self (prepend_known l.fn.self.buffer (g.R.Source.remaining l.fn.reader))
+      l.self (prepend_known l.self.buffer (g.R.Source.remaining l.reader));
+  took : (rest : List (List ℕ))
+      × Took (prepend_known l.fn.self.buffer (g.R.Source.remaining l.fn.reader))
+      (prepend_known l.self.buffer (g.R.Source.remaining l.reader)) rest;
 }
 
 abbrev pub decreases-loop-line : goal.decreases-loop-line

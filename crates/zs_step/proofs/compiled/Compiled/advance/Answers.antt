@@ -7,8 +7,10 @@ pub returns-clause-steps : goal.returns-clause-steps
 returns-clause-steps c = record {
   answered = λ h stood.
       let joined : Represents c.join_lists.new.state h = search rules in
-      is-result c.join_lists.new.state c.step_node-decision.new.state c.args.now c.args.input _ c.step_node-decision.result _ h
-      c.step_node-decision.ensures.answers c.step_node-decision.ensures.counts joined (c.join_lists.ensures.same ∙ stood.made_of);
+      is-result c.join_lists.new.state c.step_node-decision.new.state c.args.now c.args.input _
+      c.step_node-decision.result _ h
+      c.step_node-decision.ensures.answers c.step_node-decision.ensures.counts joined
+      (c.join_lists.ensures.same ∙ stood.made_of);
   stands = search rules;
   succeeds = search rules;
   seen = search rules;

@@ -8,7 +8,9 @@ returns-in_err-decision-clause-steps c = record {
   answered = search rules;
   stands = search rules;
   succeeds = λ h stood bare.
-      let none : false ≡ true = subst (λ r. IsOk r) c.in_err-decision.was (c.advance.ensures.steps.succeeds h stood (bare_listless (compiled_schedule c.args.self.now) bare)) in
+      let none : false ≡ true =
+      subst (λ r. IsOk r) c.in_err-decision.was (c.advance.ensures.steps.succeeds h stood
+      (bare_listless (compiled_schedule c.args.self.now) bare)) in
       cc;
   seen = search rules;
   breaks = search rules;

@@ -7,5 +7,8 @@ use Rattle.zs_term.proofs.parser.Parser.drop_past.Goals as goal
 pub returns-clause-sizes : goal.returns-clause-sizes
 returns-clause-sizes c = λ past.
     let now = c.args.self.now in
-    let forms : c.drop_terms.new.forms ≡ map without_term now.joined.items = c.drop_terms.ensures.value ∙ ap (map without_term) c.deref_mut.ensures.value in
-    ap (λ ks. bare_onto now.bare (joined_onto [] ks)) (with_items_is now.joined c.drop_terms.new.forms (search (rules, places)) ∙ forms) ∙ stack_sizes now.bare now.joined.items
+    let forms : c.drop_terms.new.forms ≡ map without_term now.joined.items =
+    c.drop_terms.ensures.value ∙ ap (map without_term) c.deref_mut.ensures.value in
+    ap (λ ks. bare_onto now.bare (joined_onto [] ks))
+    (with_items_is now.joined c.drop_terms.new.forms (search (rules, places)) ∙ forms)
+    ∙ stack_sizes now.bare now.joined.items

@@ -4,4 +4,5 @@ use Rattle.zs_pool.proofs.rounds.shared.Shared.join_all.Given as goal
 
 abbrev pub invariant-loop-worker : goal.invariant-loop-worker
 invariant-loop-worker g l =
-    Joins l.self l.initial.served.rights l.initial.served.overflow l.fn.workers.items (into_iter_items l.worker-iterator) l.served.rights l.served.overflow
+    Joins l.self l.initial.served.rights l.initial.served.overflow l.fn.workers.items
+    (into_iter_items l.worker-iterator) l.served.rights l.served.overflow

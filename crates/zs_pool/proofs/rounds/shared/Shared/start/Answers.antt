@@ -2,7 +2,8 @@ use mathlib.Core.List.{[], ◌∷◌}
 use denote.Exit.{no}
 use denote.Param.Send.{sendable, param_send, arg_send}
 use Rattle.std.proofs.Crossing.{send as heap_send}
-use Rattle.zs_pool.proofs.Crossing.{rights_send, served_send, board_sync, shelf_sync, captured_send, reference_send, number_send}
+use Rattle.zs_pool.proofs.Crossing.{rights_send, served_send, board_sync, shelf_sync, captured_send}
+use Rattle.zs_pool.proofs.Crossing.{reference_send, number_send}
 use Rattle.zs_pool.proofs.tally.Tally.TheSendSync as tally
 use Rattle.zs_pool.proofs.rounds.shared.Shared.start.Goals as goal
 
@@ -21,7 +22,13 @@ spawn_with-requires-send-F g c κs within =
             reference_send _ _ _ shelf_sync,
             (
               reference_send _ _ _ tally.the_sync,
-              (number_send, (number_send, (reference_send _ _ _ c.type_bounds.sync-R, (heap_send, (rights_send, tt))))),
+              (
+                number_send,
+                (
+                  number_send,
+                  (reference_send _ _ _ c.type_bounds.sync-R, (heap_send, (rights_send, tt))),
+                ),
+              ),
             ),
           ),
         ),

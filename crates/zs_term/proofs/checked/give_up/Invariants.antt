@@ -1,6 +1,0 @@
-use Rattle.zs_term.specs.Schedule.{schedule_of}
-use Rattle.zs_term.specs.Shape.{steps_to_give_up}
-use Rattle.zs_term.proofs.checked.give_up.Given as goal
-
-abbrev pub decreases-loop-rest : goal.decreases-loop-rest
-decreases-loop-rest l = steps_to_give_up (schedule_of l.rest)

@@ -1,0 +1,2 @@
+import com.shop.calendar.Schedule
+val opening = Schedule.recurs(5)

@@ -1,0 +1,2 @@
+import zio._
+val p = Schedule.recurs(3

@@ -1,0 +1,63 @@
+"""The words of policies: the form of each, what it does, and a policy that has it. TIME is a time, N a number, S a
+schedule, C a comparison, P the part `_1` or `_2` of a pair, `size`, or nothing."""
+
+_BACKOFF = "(exponential(100) && recurs(5))"
+# Each word, or two of one meaning, with its form, what it does, and an example.
+_ROWS = [
+    ("forever", "forever", "again at once, without end", "(spaced(1s) && forever)"),
+    ("identity", "identity", "again at once, without end; its output is the error code, under repeat the value",
+     "(spaced(1s) && identity.whileInput(!= 404))"),
+    ("elapsed", "elapsed", "again at once, without end; its output is the time since the first attempt ended",
+     "(spaced(1s) && elapsed.whileOutput(< 30s))"),
+    ("recurs", "recurs(N)", "again at once, N times", _BACKOFF),
+    ("spaced", "spaced(TIME)", "again after this time, without end", "(spaced(1s) && recurs(5))"),
+    ("fixed", "fixed(TIME)", "again at each multiple of this time since the first attempt ended; at once if an attempt "
+     "took longer", "(fixed(10s) && recurs(5))"),
+    ("windowed", "windowed(TIME)", "again at the next multiple of this time since the first attempt ended",
+     "(windowed(10s) && recurs(5))"),
+    ("exponential", "exponential(TIME, N)", "again after this time, then each time N times the one before (2)",
+     "(exponential(100, 3) && recurs(5))"),
+    ("fibonacci", "fibonacci(TIME)", "again after this time twice, then each time the sum of the two before",
+     "(fibonacci(100) && recurs(5))"),
+    ("linear", "linear(TIME)", "again after this time, then each time this much more", "(linear(100) && recurs(5))"),
+    ("&&", "(A && B)", "both, at the later moment, until one is done", _BACKOFF),
+    ("||", "(A || B)", "either, at the earlier moment, until both are done",
+     "((exponential(100) || spaced(1s)) && recurs(9))"),
+    ("andThenEither", "(A andThenEither B)", "A, and when it is done B",
+     "((recurs(2) andThenEither spaced(1s)) && recurs(5))"),
+    ("whileInput", "S.whileInput(C N)", "S, as long as the error code is C N, under repeat the value",
+     "(spaced(1s) && recurs(5)).whileInput(>= 500)"),
+    ("whileOutput", "S.whileOutput(P C N)", "S, as long as its output is C N",
+     f"{_BACKOFF}.whileOutput(_1 < 1s)"),
+    ("resetWhen", "S.resetWhen(P C N)", "S, from the start again when its output is C N",
+     "(exponential(100) && forever).resetWhen(_2 = 5)"),
+    ("collectAll", "S.collectAll", "S, with the list of its outputs", "spaced(1s).collectAll.whileOutput(size < 5)"),
+    ("map", "S.map(F)", "S, with another output: _1, _2, size, merge, as N, + N or * N", f"{_BACKOFF}.map(_1)"),
+    ("_1 _2", "_1, _2", "the first and the second part of a pair, the output of && and ||",
+     f"{_BACKOFF}.whileOutput(_1 < 1s).whileOutput(_2 < 4)"),
+    ("size", "size", "how many outputs a list has", "spaced(1s).collectAll.whileOutput(size < 5)"),
+    ("merge", "merge", "the output of the part of andThenEither that goes on",
+     "(recurs(2) andThenEither (spaced(1s) && recurs(3)).map(_2)).map(merge)"),
+    ("as", "as N", "the number N in place of the output", f"{_BACKOFF}.map(as 7)"),
+    ("delays", "delays(TIME, ..)", "again after each of these times in turn", "delays(1s, 1.5s, 2.25s)"),
+    ("rand", "rand(N, N)", "a number that is drawn once, from the first to the second",
+     "(spaced(rand(50, 150)) && recurs(5))"),
+    ("jitter", "S jitter KIND", "each wait of S is drawn: full from 0 to it, equal from half of it, 20% from 80 to 120 "
+     "% of it, 2/3..1 between two parts of it, +0..2s up to 2 s more; and jitter(TIME, CAP, N) is full under a cap",
+     f"{_BACKOFF} jitter full"),
+    ("decorrelated", "decorrelated(TIME, N)", "N waits of Polly's jitter, the first about this time",
+     "decorrelated(200, 4)"),
+    ("call", "S call TIME", "the limit of the call: a running attempt is cut then, and none begins",
+     f"{_BACKOFF} call 3s"),
+    ("attempt", "S attempt TIME", "the limit of an attempt, which then fails", f"{_BACKOFF} attempt 1s"),
+    ("on", "S on CODE,..", "the errors that are retried: codes, classes as 5xx, names of gRPC",
+     f"{_BACKOFF} on 429,5xx"),
+    ("asked", "S asked TIME", "the longest wait that is made if a service asks for it, as by Retry-After",
+     f"{_BACKOFF} asked 30s"),
+    ("budget", "S budget {..}", "a limit of retries that all clients share, as in a scenario of zsched-outage",
+     f'{_BACKOFF} budget {{"like": "grpc", "tokens": 100}}'),
+    ("parallel", "S parallel N", "how many attempts run side by side", f"{_BACKOFF} parallel 3"),
+    ("mode", "S mode MODE", "retry runs again after each error, repeat after each success",
+     "(fixed(10s) && recurs(5)) mode repeat")]
+# Of each word its line and an example.
+WORDS = {word: (f"{form}: {does}", example) for words, form, does, example in _ROWS for word in words.split()}
