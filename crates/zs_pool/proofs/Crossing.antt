@@ -74,8 +74,10 @@ checked_send = view_send terms.checked.Checked.TheInside.the_row _ _ _ _
     (declared_send terms.checked.Checked.TheInside.the_type (term_send, (kind_send, tt)))
 
 compiled_send : IsSend steps.compiled.Compiled.the_row
-compiled_send = declared_send steps.compiled.Compiled.the_type
-    (state_send, (search sendable, (search sendable, (heap_send, (checked_send, tt)))))
+compiled_send = declared_send steps.compiled.Compiled.the_type (
+  state_send,
+  (search sendable, (search sendable, (search sendable, (heap_send, (checked_send, tt))))),
+)
 
 ended_send : IsSend drive.record.Ended.the_row
 ended_send = declared_send drive.record.Ended.the_type (

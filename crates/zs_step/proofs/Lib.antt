@@ -12,3 +12,4 @@ pub mod LastReset
 pub mod VisitBounds
 pub mod Moments
 pub mod Boundaries
+pub mod Joined

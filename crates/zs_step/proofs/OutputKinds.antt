@@ -26,12 +26,12 @@ Has v None = Unit {0}
 Has v (Some a) = HasKind v a
 
 -- the left of a conjunction
-and-left : (b c : Bool) → (b && c) ≡ true → b ≡ true
+pub and-left : (b c : Bool) → (b && c) ≡ true → b ≡ true
 and-left true c e = refl
 and-left false c e = e
 
 -- the right of a conjunction
-and-right : (b c : Bool) → (b && c) ≡ true → c ≡ true
+pub and-right : (b c : Bool) → (b && c) ≡ true → c ≡ true
 and-right true c e = e
 and-right false c e = cc
 

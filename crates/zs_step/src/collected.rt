@@ -12,8 +12,8 @@ use zs_term::{Out, Outs};
 // at the last step, its output there is due: it joins the list before the next step.
 #[derive(Drop)]
 pub(crate) struct Collected {
-    list: Outs,
-    due: bool,
+    pub(crate) list: Outs,
+    pub(crate) due: bool,
 }
 
 impl Collected {
@@ -29,20 +29,6 @@ impl Collected {
             list: Outs::new(Vec::new(alloc)),
             due: false,
         }
-    }
-
-    // Returns the outputs of the steps before the last one.
-    pub(crate) fn list(&self) -> &Outs
-        ensures value { result.now ≡ self.now.list }
-    {
-        &self.list
-    }
-
-    // Whether the output of the part's last step is still to join.
-    pub(crate) fn due(&self) -> bool
-        ensures value { result ≡ self.now.due }
-    {
-        self.due
     }
 
     // Returns the number of outputs of the steps before the last one.

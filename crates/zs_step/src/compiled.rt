@@ -1,7 +1,8 @@
 //! A schedule that is stepped in place, with its term.
 
-ghost use Rattle.std.specs.Prelude.{◌≤◌};
+ghost use Rattle.std.specs.Prelude.{◌≡◌, ◌≤◌};
 ghost use Rattle.zs_term.specs.Schedule.{weight, max_weight};
+ghost use Rattle.zs_step.specs.Memory.{keeps_no_list};
 ghost use Rattle.zs_step.specs.State.{state_schedule};
 
 use crate::decision::Decision;
@@ -20,11 +21,14 @@ use zs_term::{Checked, Out};
 /// long the history is. Only the lists of `collectAll` grow with each step.
 pub struct Compiled {
     state: State,
+    listless: bool,
     last: u64,
     broken: bool,
     alloc: Global,
     checked: Checked,
     ghost small: { weight (state_schedule state) ≤ max_weight },
+    // Whether no part is a `collectAll`: no step then has an output to join.
+    ghost known: { listless ≡ keeps_no_list (state_schedule state) },
 }
 
 // Written by hand: crates that drop one need no proof of what is in it.
@@ -32,6 +36,7 @@ impl Drop for Compiled {
     fn drop(self) {
         let Compiled {
             state: _,
+            listless: _,
             last: _,
             broken: _,
             alloc: _,
@@ -41,7 +46,7 @@ impl Drop for Compiled {
 }
 
 impl Compiled {
-    ghost use Rattle.std.specs.Prelude.{◌≡◌, ◌≤◌, [], IfOk, IsOk, true};
+    ghost use Rattle.std.specs.Prelude.{[], IfOk, IsOk, true};
     ghost use Rattle.zs_term.specs.Output.{output_of};
     ghost use Rattle.zs_term.specs.Schedule.{schedule_of};
     ghost use Rattle.zs_step.specs.History.{History};
@@ -57,9 +62,11 @@ impl Compiled {
         // A leaf's state takes no memory.
         ensures succeeds { is_leaf (schedule_of checked) ≡ true → IsOk result }
     {
-        let state = state_of(alloc, checked.term())?;
+        let mut state = state_of(alloc, checked.term())?;
+        let listless = join_lists(&mut state, alloc)?;
         Ok(Compiled {
             state,
+            listless,
             last: 0,
             broken: false,
             alloc,
@@ -105,6 +112,7 @@ impl Compiled {
 
     // Like `step`, but makes no output. Returns the decision and the number of nodes that were
     // stepped. Only a `collectAll` takes memory.
+    #[tactic(auto, using(crate::proofs::Joined::listless_joined))]
     fn advance(&mut self, now: u64, input: u64) -> Result<(Decision, u64), StepFault>
         requires order { last_seen self.old ≤ now }
         ensures term { compiled_term self.new ≡ compiled_term self.old }
@@ -113,7 +121,7 @@ impl Compiled {
         if self.broken {
             return Err(StepFault::Memory);
         }
-        if join_lists(&mut self.state, self.alloc).is_err() {
+        if !self.listless && join_lists(&mut self.state, self.alloc).is_err() {
             return Err(self.set_broken());
         }
         let step = StepInput {

@@ -1,7 +1,7 @@
 //! One step of a schedule's state, in place. It makes no output: `view.rt` reads that from the
 //! state.
 
-ghost use Rattle.std.specs.Prelude.{◌≡◌, ◌<◌, ◌+◌, ◌*◌, ◌^◌, [], true, OnOk, IsOk};
+ghost use Rattle.std.specs.Prelude.{◌≡◌, ◌<◌, ◌+◌, ◌*◌, ◌^◌, [], true, IfOk, OnOk, IsOk};
 ghost use Rattle.zs_term.specs.Output.{pair};
 ghost use Rattle.zs_term.specs.Schedule.{weight};
 ghost use Rattle.zs_step.specs.History.{History};
@@ -34,8 +34,10 @@ pub(crate) struct Trace {
     pub(crate) numbers: Numbers,
 }
 
-// Appends to each list the output that is due. After that a step takes no memory.
-pub(crate) fn join_lists(state: &mut State, alloc: Global) -> Result<(), AllocError>
+// Appends to each list the output that is due. After that a step takes no memory. Returns whether
+// there is no list.
+pub(crate) fn join_lists(state: &mut State, alloc: Global) -> Result<bool, AllocError>
+    ensures listless { IfOk result (λ none. none ≡ keeps_no_list (state_schedule state.old)) }
     ensures same { state_schedule state.new ≡ state_schedule state.old }
     ensures joined { OnOk result (IsJoined state.new) }
     ensures represents { OnOk result
@@ -43,24 +45,22 @@ pub(crate) fn join_lists(state: &mut State, alloc: Global) -> Result<(), AllocEr
     ensures succeeds { keeps_no_list (state_schedule state.old) ≡ true → IsOk result }
 {
     match state {
-        State::Leaf(_) => Ok(()),
+        State::Leaf(_) => Ok(true),
         State::Both { parts } => {
-            join_lists(&mut parts.0, alloc)?;
-            join_lists(&mut parts.1, alloc)
+            Ok(join_lists(&mut parts.0, alloc)? & join_lists(&mut parts.1, alloc)?)
         }
         State::Either { parts } => {
-            join_lists(&mut parts.0, alloc)?;
-            join_lists(&mut parts.1, alloc)
+            Ok(join_lists(&mut parts.0, alloc)? & join_lists(&mut parts.1, alloc)?)
         }
         State::AndThen { parts, .. } => {
-            join_lists(&mut parts.0, alloc)?;
-            join_lists(&mut parts.1, alloc)
+            Ok(join_lists(&mut parts.0, alloc)? & join_lists(&mut parts.1, alloc)?)
         }
         State::CollectAll { part, kept } => {
-            if kept.due() {
+            if kept.due {
                 kept.join(make_out(alloc, part)?)?;
             }
-            join_lists(part, alloc)
+            join_lists(part, alloc)?;
+            Ok(false)
         }
         State::WhileInput { part, .. } => join_lists(part, alloc),
         State::WhileOutput { part, .. } => join_lists(part, alloc),

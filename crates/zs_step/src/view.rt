@@ -103,7 +103,7 @@ pub(crate) fn make_out(alloc: Global, state: &State) -> Result<Out, AllocError>
                 make_left(alloc, make_out(alloc, &parts.0)?)
             }
         }
-        State::CollectAll { kept, .. } => Ok(Out::Items(kept.list().copy()?)),
+        State::CollectAll { kept, .. } => Ok(Out::Items(kept.list.copy()?)),
         State::Leaf(leaf) => Ok(Out::Num(leaf.output())),
         node => Ok(Out::Num(read_numbers(node).pick(Pick::Whole))),
     }
