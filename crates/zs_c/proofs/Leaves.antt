@@ -28,8 +28,7 @@ use Rattle.zs_step.specs.LeafState.{LeafRepresents}
 use Rattle.zs_step.proofs.OutputKinds.{answer_of-has_kind}
 use Rattle.zs_c.specs.Words.{leaf_code, leaf_words}
 use Rattle.zs_c.specs.Code.{leaf_held}
-use Rattle.zs_c.specs.Leaves.{word_at, rule_at, if_begun, past_in, loaded, first_in, rest_stored}
-use Rattle.zs_c.specs.Leaves.{stored}
+use Rattle.zs_c.specs.Leaves.{word_at, if_begun, past_in, loaded, first_in, rest_stored, stored}
 use Rattle.zs_c.specs.Form.{node_at, IsNode}
 use Rattle.zs_c.proofs.Pieces.{drop-whole, append-nothing}
 
@@ -61,7 +60,7 @@ leaf-length (exponential b f) h g = refl
 
 -- the code of a leaf is read as the leaf before any step
 pub leaf-node : (l : LeafRule) → IsNode (node_at (leaf_code l)) (leaf l)
-unfolding node_at rule_at
+unfolding node_at
 leaf-node (plain PlainForever) = (refl, refl)
 leaf-node (plain PlainIdentity) = (refl, refl)
 leaf-node (plain PlainElapsed) = (refl, refl)
@@ -75,7 +74,7 @@ leaf-node (exponential b f) = (refl, refl)
 
 -- and as no other schedule
 pub leaf-once : (l : LeafRule) (u : Schedule) → IsNode (node_at (leaf_code l)) u → u ≡ leaf l
-unfolding node_at rule_at
+unfolding node_at
 leaf-once (plain PlainForever) u is = is.0
 leaf-once (plain PlainIdentity) u is = is.0
 leaf-once (plain PlainElapsed) u is = is.0

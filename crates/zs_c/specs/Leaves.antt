@@ -30,7 +30,7 @@ abbrev pub word_at : List ℕ → ℕ → ℕ
 word_at words at = slice_index_or words at 0
 
 -- the leaf of a tag and the words after it
-unfoldable pub rule_at : List ℕ → LeafRule
+abbrev pub rule_at : List ℕ → LeafRule
 rule_at code =
     let w = word_at code 0 in
     if w == 2 then identity

@@ -20,13 +20,14 @@ pub(crate) fn put_after(room: &mut [u8], first: usize, text: &[u8])
     }
 }
 
-// Writes words to the front of a buffer, if it has at least their length.
+// Writes words to the front of a buffer, if it has at least their length. Returns their number.
 #[inline(always)]
-pub(crate) fn put_words(room: &mut [u64], words: &[u64])
-    ensures front { length words.now ≤ length room.old
-        → room.new ≡ words.now ++ drop (length words.now) room.old }
+pub(crate) fn put_words(room: &mut [u64], words: &[u64]) -> usize
+    ensures size { result ≡ length words.now }
+    ensures front { result ≤ length room.old → room.new ≡ words.now ++ drop result room.old }
 {
     if words.len() <= room.len() {
         room[..words.len()].copy_from_slice(words);
     }
+    words.len()
 }

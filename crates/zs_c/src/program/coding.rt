@@ -5,12 +5,14 @@ ghost use Rattle.zs_term.specs.Schedule.{schedule_of, weight, max_weight};
 ghost use Rattle.zs_term.specs.OutputKind.{output_kind_of};
 ghost use Rattle.zs_c.specs.Shown.{has_no_list, shows_no_list};
 ghost use Rattle.zs_c.specs.Code.{code_of, held_of, held_size, pair_code, func_word, func_number};
+ghost use Rattle.zs_c.specs.Leaves.{new_leaf, rule_at, stored};
 ghost use Rattle.zs_c.specs.Program.{program_of, program_state};
 ghost use Rattle.zs_c.specs.declared.refusal.Refusal.TheVariants.{Memory, KeepsList};
 
+use crate::program::leaf::store;
 use crate::program::node::{
     AND_THEN, BOTH, COLLECT_ALL, EITHER, ELAPSED, EXPONENTIAL, FIBONACCI, FIXED, FOREVER, IDENTITY,
-    LINEAR, MAP, RECURS, RESET_WHEN, SPACED, WHILE_INPUT, WHILE_OUTPUT, WINDOWED,
+    LINEAR, MAP, RECURS, RESET_WHEN, SPACED, WHILE_INPUT, WHILE_OUTPUT, WINDOWED, read_leaf,
 };
 use crate::program::opening::{PROGRAM_VERSION, check_word};
 use crate::program::running::STATE_HEAD;
@@ -64,16 +66,16 @@ fn write_code(alloc: Global, term: &Term, code: &mut Vec<u64>) -> Result<u64, Re
     ensures err { IfErr result (λ why. why ≡ Memory) }
 {
     match term {
-        Term::Forever => write_leaf(&[FOREVER], 2, code),
-        Term::Identity => write_leaf(&[IDENTITY], 1, code),
-        Term::Elapsed => write_leaf(&[ELAPSED], 3, code),
-        Term::Recurs(n) => write_leaf(&[RECURS, *n], 2, code),
-        Term::Spaced(n) => write_leaf(&[SPACED, *n], 2, code),
-        Term::Fixed(n) => write_leaf(&[FIXED, *n], 4, code),
-        Term::Fibonacci(n) => write_leaf(&[FIBONACCI, *n], 3, code),
-        Term::Linear(n) => write_leaf(&[LINEAR, *n], 2, code),
-        Term::Windowed(n) => write_leaf(&[WINDOWED, *n], 3, code),
-        Term::Exponential(base, factor) => write_leaf(&[EXPONENTIAL, *base, *factor], 2, code),
+        Term::Forever => write_leaf(&[FOREVER], code),
+        Term::Identity => write_leaf(&[IDENTITY], code),
+        Term::Elapsed => write_leaf(&[ELAPSED], code),
+        Term::Recurs(n) => write_leaf(&[RECURS, *n], code),
+        Term::Spaced(n) => write_leaf(&[SPACED, *n], code),
+        Term::Fixed(n) => write_leaf(&[FIXED, *n], code),
+        Term::Fibonacci(n) => write_leaf(&[FIBONACCI, *n], code),
+        Term::Linear(n) => write_leaf(&[LINEAR, *n], code),
+        Term::Windowed(n) => write_leaf(&[WINDOWED, *n], code),
+        Term::Exponential(base, factor) => write_leaf(&[EXPONENTIAL, *base, *factor], code),
         Term::Both(a, b) => write_parts(alloc, BOTH, a, b, code),
         Term::Either(a, b) => write_parts(alloc, EITHER, a, b, code),
         Term::AndThen(a, b) => Ok(1 + write_parts(alloc, AND_THEN, a, b, code)?),
@@ -102,13 +104,13 @@ fn write_code(alloc: Global, term: &Term, code: &mut Vec<u64>) -> Result<u64, Re
 }
 
 // Appends the words of a leaf. Returns the number of words of its state.
-fn write_leaf(words: &[u64], state: u64, code: &mut Vec<u64>) -> Result<u64, Refusal>
+fn write_leaf(words: &[u64], code: &mut Vec<u64>) -> Result<u64, Refusal>
     ensures code { IfOk result (λ _. code.new.items ≡ code.old.items ++ words.now) }
-    ensures state { IfOk result (λ n. n ≡ state) }
+    ensures state { IfOk result (λ n. n ≡ length (stored (new_leaf (rule_at words.now)) 0)) }
     ensures err { IfErr result (λ why. why ≡ Memory) }
 {
     code.extend_from_slice(words)?;
-    Ok(state)
+    Ok(store(&read_leaf(words), 0, &mut []) as u64)
 }
 
 // Appends the tag of an operator between two terms, the sizes of the first, and the code of both.

@@ -1,6 +1,6 @@
 //! A leaf of a program: loaded from the words of its state, stepped, and stored back.
 
-ghost use Rattle.std.specs.Prelude.{◌≡◌, ◌∷◌};
+ghost use Rattle.std.specs.Prelude.{◌≡◌, ◌∷◌, length};
 ghost use Rattle.zs_step.specs.History.{History};
 ghost use Rattle.zs_step.specs.LeafState.{state_leaf};
 ghost use Rattle.zs_c.specs.Code.{leaf_held};
@@ -71,29 +71,25 @@ fn if_begun(words: &[u64], at: usize) -> Option<u64>
 fn load_past(words: &[u64]) -> Option<Past>
     ensures value { result ≡ past_in words.now }
 {
-    if word(words, 1) == 0 {
-        return None;
-    }
     Some(Past {
-        first: word(words, 2),
+        first: if_begun(words, 2)?,
         before: word(words, 0),
     })
 }
 
 // Stores a leaf: its output, and what its next step needs to know. `steps` is the number of steps,
-// which some leaves store.
+// which some leaves store. Returns the number of words, also if there is no room for them.
 #[inline(always)]
-pub(crate) fn store(leaf: &Leaf, steps: u64, words: &mut [u64])
+pub(crate) fn store(leaf: &Leaf, steps: u64, words: &mut [u64]) -> usize
+    ensures size { result ≡ length (stored leaf.now steps) }
     ensures stored { Stores leaf.now steps words.old words.new }
 {
     let output = leaf.output();
     match leaf {
         Leaf::Forever { .. } | Leaf::Recurs { .. } | Leaf::Spaced { .. } => {
-            put_words(words, &[output, steps]);
+            put_words(words, &[output, steps])
         }
-        Leaf::Fixed { past, run, .. } => {
-            put_words(words, &[output, steps, first_in(*past), *run]);
-        }
+        Leaf::Fixed { past, run, .. } => put_words(words, &[output, steps, first_in(*past), *run]),
         Leaf::Exponential { next, .. } => put_words(words, &[output, *next]),
         Leaf::Fibonacci { next, .. } => put_words(words, &[output, output, *next]),
         Leaf::Identity { .. } => put_words(words, &[output]),

@@ -101,7 +101,6 @@ pub(crate) fn read_node(code: &[u64]) -> Form
 
 // Reads the leaf at the front of a code, before any step.
 #[inline(always)]
-#[tactic(auto, unfolding(crate::specs::Leaves::rule_at))]
 pub(crate) fn read_leaf(code: &[u64]) -> Leaf
     ensures value { result ≡ new_leaf (rule_at code.now) }
 {
