@@ -2,8 +2,8 @@
 """Tries the wrong bodies: the prover has to refuse each by the clause that its file names, and to prove its control.
 
 CONTRIBUTING.md has the form of an edit. Edits of one crate are checked together, in bundles, never two of one function:
-a line of the prover for each function says which of its own clauses failed. What a bundle leaves unclear is tried
-alone. A bundle that passed on this machine is tried again only if something changed of what it read.
+of the functions that their files name the prover says which of their own clauses failed. What a bundle leaves unclear
+is tried alone. A bundle that passed on this machine is tried again only if something changed of what it read.
 
     refusals.py [NAME ..]      the edits of these crates, or of all; a file of an edit: this one alone
     refusals.py --stated FILE  the line `# refused:` for an edit, from a check of it alone
@@ -134,8 +134,9 @@ def toolchain():
     return rtlib, {it.name: it for it in rtlib.crates_below(str(TOP / "crates"))}
 
 
-def check(crate, texts, kept):
-    """Checks a copy of a crate with other texts, over what earlier checks left in `kept`: the status and the lines."""
+def check(crate, texts, kept, functions=()):
+    """Checks a copy of a crate with other texts, over what earlier checks left in `kept`: all of it, or some functions
+    with those that they call. Returns the status and the lines."""
     rtlib, crates = toolchain()
     with tempfile.TemporaryDirectory(prefix="refusals-") as room:
         for part in PARTS:
@@ -144,6 +145,7 @@ def check(crate, texts, kept):
         for file, text in texts.items():
             pathlib.Path(room, file).write_text(text, encoding="utf-8")
         words = crates[crate.name].words(["--jobs", "1"], keeps=False)
+        words += [word for name in functions for word in ["--only", name.removeprefix(f"{crate.name}::")]]
         ended = subprocess.run([*rtlib.guarded(), rtlib.RATTLE, "check", *words, "--incremental", kept], cwd=room,
                                stdin=subprocess.DEVNULL, stdout=subprocess.PIPE, stderr=subprocess.STDOUT, check=False,
                                text=True, errors="replace")
@@ -257,21 +259,23 @@ class Trial:
         self.edits = [it for it in edits_of(crate) if not names or str(it.path) in names]
         self.failed = {it.path: why for it in self.edits if (why := "; ".join(unfit(it)))}
 
-    def checked(self, edits, place=2):
+    def checked(self, edits, place=2, functions=()):
         """What one check says with some edits in place: its status, its lines, and what it says of each function."""
         self.checks += 1
-        status, lines = check(self.crate, applied(self.crate, edits, place), self.kept)
+        status, lines = check(self.crate, applied(self.crate, edits, place), self.kept, functions)
         return status, lines, findings(self.crate, lines)
 
     def refused(self, edits):
         """Tries a bundle, and alone what it leaves unclear. Returns the reasons of what stays so."""
         try:
-            said = self.checked(edits)
+            said = self.checked(edits, functions=sorted({it.refused.partition(" ")[0] for it in edits}))
         except Unclear as why:
             return {edits[0].path: str(why)}
         unclear = {it.path: why for it in edits if (why := refusal(it, *said))}
         if len(edits) == 1:
             return unclear
+        for path, why in unclear.items():
+            print(f"{self.crate.name}: {path.stem} is tried alone, since {why}", flush=True)
         return {path: why for it in edits if it.path in unclear for path, why in self.refused([it]).items()}
 
     def proved(self, edits):
@@ -299,10 +303,14 @@ class Trial:
         """Tries all, and says how it went. Returns how many passed and failed."""
         begun, whole = time.monotonic(), [it for it in self.edits if it.path not in self.failed]
         with tempfile.TemporaryDirectory(prefix="refusals-") as self.kept:
+            # The controls first: over what they leave, a bundle has little more to prove than what it changes. So each
+            # stays in its place beside later ones.
+            placed = []
+            for edits in bundles_of(self.crate, [it for it in whole if it.has_control], 3):
+                placed = bundles_of(self.crate, [*edits, *placed], 3)[0]
+                self.tried("proved", placed, self.proved)
             for edits in bundles_of(self.crate, whole):
                 self.tried("refused", edits, self.refused)
-            for edits in bundles_of(self.crate, [it for it in whole if it.has_control], 3):
-                self.tried("proved", edits, self.proved)
         print(*[f"{path.relative_to(TOP / 'crates')}: {why}" for path, why in self.failed.items()],
               f"{self.crate.name}: {len(self.edits)} edits in {self.checks} checks, {time.monotonic() - begun:.0f} s",
               sep="\n", flush=True)

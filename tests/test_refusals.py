@@ -29,9 +29,14 @@ PROVER = r'''
 import pathlib, re, sys
 open(sys.argv[sys.argv.index("--incremental") + 1] + "/../checks", "a").write("x")
 text = pathlib.Path("src/lib.rt").read_text()
+open(sys.argv[sys.argv.index("--incremental") + 1] + "/../texts", "a").write(text + "\0")
 if "unread" in text:
     sys.exit("error[parse]: what is this?")
 found = dict(re.findall(r"fn (\w+)\(.*?\n\{\n(.*?)\n\}", text, re.S))
+if only := [word for before, word in zip(sys.argv, sys.argv[1:]) if before == "--only"]:
+    if not {*only} <= {*found}:
+        sys.exit(2)
+    found = {name: found[name] for name in only}
 ends = {"wrong": "no proof: `search` did not prove `returns-then-x-clause-value`",
         "while": "no proof: expected a measure in ./proofs/next/Invariants.antt",
         "other": "no proof: `search` did not prove `add-requires-clause-fits`",
@@ -42,9 +47,9 @@ for name, body in found.items():
     if "hand" in body:
         print(f"./proofs/{name}/Answers.antt:1:1: error: `returns-clause-value`: the two types differ")
     print(f"fn zs_a::{name}: {next((end for word, end in ends.items() if word in body), 'proved')}")
-is_proved = not any(word in text for word in ends)
+is_proved = not any(word in body for word in ends for body in found.values())
 print("logic=" + ("proved" if is_proved else "not-proved"))
-sys.exit(3 if "limit" in text else 0 if is_proved else 1)
+sys.exit(3 if any("limit" in body for body in found.values()) else 0 if is_proved else 1)
 '''
 TOOLCHAIN = """
 import types
@@ -117,6 +122,16 @@ def test_edits_of_different_functions_are_one_check_and_others_are_not(tree):
     assert tried(tree)[1] == 1
     add(tree, "three", ["# refused: zs_a::next value", "new: x + wrong"])
     assert tried(tree, "--anew")[1] == 2
+
+
+def test_a_control_stays_in_its_place_beside_later_ones(tree):
+    for name, control in [("one", "1 + x"), ("two", "x + 1 + 0")]:
+        add(tree, name, [*NEXT, f"# control: {control}"])
+    add(tree, "other", [*LAST, "# control: x - 1 - 0"])
+    assert tried(tree)[1] == 4
+    texts = (tree / "texts").read_text().split("\0")
+    assert ["1 + x" in texts[0], "x + 1 + 0" in texts[1]] == [True, True]
+    assert ["x - 1 - 0" in it for it in texts[:4]] == [True, True, False, False]
 
 
 @pytest.mark.parametrize("change", ["crates/zs_a/src/lib.rt", "crates/zs_low/src/lib.rt", "crates/zs_a/wrong/one.edit",
