@@ -129,7 +129,7 @@ def test_a_clock_that_stands_still_beside_real_sleeps_ends_the_call_too(zsched):
 
 
 def test_a_plain_function_in_an_event_loop_says_that_it_blocks_it(zsched):
-    fetch = zsched.retrying("spaced(1)")(Clock().failing(1))
+    fetch = zsched.retrying("spaced(200)")(Clock().failing(1))
 
     async def main():
         return fetch()
