@@ -21,7 +21,20 @@ use Rattle.std.proofs.result.Result.TheSendSync as result
 use Rattle.zs_step.proofs.decision.Decision.TheSendSync as decision
 use Rattle.std.specs.contracts.alloc.Global as global
 use Rattle.crossbeam_queue.specs.contracts.array_queue as queue
-use Rattle.zs_pool.specs.contracts as pool
+use Rattle.zs_pool.specs.contracts.batch.Batch as batch_type
+use Rattle.zs_pool.specs.contracts.polled.Polled as polled_type
+use Rattle.zs_pool.specs.contracts.board.BoardPass as board_pass_type
+use Rattle.zs_pool.specs.contracts.shelf.ShelfPass as shelf_pass_type
+use Rattle.zs_pool.specs.contracts.rounds.shared.Rights as rights_type
+use Rattle.zs_pool.specs.contracts.rounds.workers.Served as served_type
+use Rattle.zs_pool.specs.contracts.board.Board as board_type
+use Rattle.zs_pool.specs.contracts.board.rule.Claims as claims_type
+use Rattle.zs_pool.specs.contracts.board.rule.InTurn as in_turn_type
+use Rattle.zs_pool.specs.contracts.board.rule.InTurnProtocolClaims as in_turn_protocol_claims_type
+use Rattle.zs_pool.specs.contracts.shelf.Shelf as shelf_type
+use Rattle.zs_pool.specs.contracts.shelf.rule.Hands as hands_type
+use Rattle.zs_pool.specs.contracts.shelf.rule.EachOnce as each_once_type
+use Rattle.zs_pool.specs.contracts.shelf.rule.EachOnceProtocolHands as each_once_protocol_hands_type
 use Rattle.zs_term.proofs.outputs.Out.TheLaws.TheKnot as out_knot
 use Rattle.zs_term.proofs.term.Term.TheLaws.TheKnot as term_knot
 use Rattle.zs_term.proofs.kind.Kind.TheLaws.TheKnot as kind_knot
@@ -123,74 +136,74 @@ task_send = view_send drive.task.Task.TheInside.the_row _ _ _ _
       ),
     ))
 
-batch_send : IsSend pool.batch.Batch.the_row
-batch_send = view_send pool.batch.Batch.TheInside.the_row _ _ _ _
-    (declared_send pool.batch.Batch.TheInside.the_type
+batch_send : IsSend batch_type.the_row
+batch_send = view_send batch_type.TheInside.the_row _ _ _ _
+    (declared_send batch_type.TheInside.the_type
     (search sendable, (Vec-send drive.task.Task.the_row task_send, tt)))
 
-polled_send : IsSend pool.polled.Polled.the_row
-polled_send = view_send pool.polled.Polled.TheInside.the_row _ _ _ _
-    (declared_send pool.polled.Polled.TheInside.the_type
+polled_send : IsSend polled_type.the_row
+polled_send = view_send polled_type.TheInside.the_row _ _ _ _
+    (declared_send polled_type.TheInside.the_type
     (search sendable, (search sendable, (Vec-send drive.task.Task.the_row task_send, tt))))
 
-pub board_pass_send : IsSend pool.board.BoardPass.the_row
-board_pass_send = view_send pool.board.BoardPass.TheInside.the_row _ _ _ _
-    (declared_send pool.board.BoardPass.TheInside.the_type (
-      seat.the_send (option_type.the_row pool.batch.Batch.the_row) _
-          (option.the_send pool.batch.Batch.the_row batch_send),
+pub board_pass_send : IsSend board_pass_type.the_row
+board_pass_send = view_send board_pass_type.TheInside.the_row _ _ _ _
+    (declared_send board_pass_type.TheInside.the_type (
+      seat.the_send (option_type.the_row batch_type.the_row) _
+          (option.the_send batch_type.the_row batch_send),
       (counter_seat.the_send, (search sendable, tt)),
     ))
 
-pub shelf_pass_send : IsSend pool.shelf.ShelfPass.the_row
-shelf_pass_send = view_send pool.shelf.ShelfPass.TheInside.the_row _ _ _ _
-    (declared_send pool.shelf.ShelfPass.TheInside.the_type (
-      seat.the_send (option_type.the_row pool.polled.Polled.the_row) _
-          (option.the_send pool.polled.Polled.the_row polled_send),
+pub shelf_pass_send : IsSend shelf_pass_type.the_row
+shelf_pass_send = view_send shelf_pass_type.TheInside.the_row _ _ _ _
+    (declared_send shelf_pass_type.TheInside.the_type (
+      seat.the_send (option_type.the_row polled_type.the_row) _
+          (option.the_send polled_type.the_row polled_send),
       tt,
     ))
 
-pub rights_send : IsSend pool.rounds.shared.Rights.the_row
-rights_send = declared_send pool.rounds.shared.Rights.the_type
+pub rights_send : IsSend rights_type.the_row
+rights_send = declared_send rights_type.the_type
     (board_pass_send, (shelf_pass_send, (tally_seat_sent.the_send, tt)))
 
-pub served_send : IsSend pool.rounds.workers.Served.the_row
-served_send = declared_send pool.rounds.workers.Served.the_type (
+pub served_send : IsSend served_type.the_row
+served_send = declared_send served_type.the_type (
   rights_send,
   (
-    result.the_send _ _ (Vec-send pool.polled.Polled.the_row polled_send)
+    result.the_send _ _ (Vec-send polled_type.the_row polled_send)
         (search (rules, sendable)),
     tt,
   ),
 )
 
-pub board_sync : IsSync pool.board.Board.the_row
-board_sync = view_sync pool.board.Board.TheInside.the_row _ _ _ _
-    (declared_sync pool.board.Board.TheInside.the_type (
-      slotted.the_sync (option_type.the_row pool.batch.Batch.the_row)
-          (queue.Doing.the_row pool.batch.Batch.the_row
-          (pool.board.rule.Claims.the_row pool.batch.Batch.the_row))
-          (queue.Turns.the_row pool.board.rule.InTurn.the_row) global.the_row
-          (queue.TurnsTableRuleOptionDoingUnit.TheImpl.ghosts pool.batch.Batch.the_row
-          (pool.board.rule.Claims.the_row pool.batch.Batch.the_row) pool.board.rule.InTurn.the_row
-          (pool.board.rule.InTurnProtocolClaims.TheImpl.ghosts pool.batch.Batch.the_row)
+pub board_sync : IsSync board_type.the_row
+board_sync = view_sync board_type.TheInside.the_row _ _ _ _
+    (declared_sync board_type.TheInside.the_type (
+      slotted.the_sync (option_type.the_row batch_type.the_row)
+          (queue.Doing.the_row batch_type.the_row
+          (claims_type.the_row batch_type.the_row))
+          (queue.Turns.the_row in_turn_type.the_row) global.the_row
+          (queue.TurnsTableRuleOptionDoingUnit.TheImpl.ghosts batch_type.the_row
+          (claims_type.the_row batch_type.the_row) in_turn_type.the_row
+          (in_turn_protocol_claims_type.TheImpl.ghosts batch_type.the_row)
           queue.TurnsTableRuleOptionDoingUnit.TheImpl.no_dict) heap.ghosts
-          (option.the_send pool.batch.Batch.the_row batch_send) heap_send heap_sync frees,
+          (option.the_send batch_type.the_row batch_send) heap_send heap_sync frees,
       (counter.the_sync, (search sendable, tt)),
     ))
 
-pub shelf_sync : IsSync pool.shelf.Shelf.the_row
-shelf_sync = view_sync pool.shelf.Shelf.TheInside.the_row _ _ _ _
-    (declared_sync pool.shelf.Shelf.TheInside.the_type (
-      slotted.the_sync (option_type.the_row pool.polled.Polled.the_row)
-          (queue.Doing.the_row pool.polled.Polled.the_row
-          (pool.shelf.rule.Hands.the_row pool.polled.Polled.the_row))
-          (queue.Turns.the_row pool.shelf.rule.EachOnce.the_row) global.the_row
-          (queue.TurnsTableRuleOptionDoingUnit.TheImpl.ghosts pool.polled.Polled.the_row
-          (pool.shelf.rule.Hands.the_row pool.polled.Polled.the_row)
-          pool.shelf.rule.EachOnce.the_row
-          (pool.shelf.rule.EachOnceProtocolHands.TheImpl.ghosts pool.polled.Polled.the_row)
+pub shelf_sync : IsSync shelf_type.the_row
+shelf_sync = view_sync shelf_type.TheInside.the_row _ _ _ _
+    (declared_sync shelf_type.TheInside.the_type (
+      slotted.the_sync (option_type.the_row polled_type.the_row)
+          (queue.Doing.the_row polled_type.the_row
+          (hands_type.the_row polled_type.the_row))
+          (queue.Turns.the_row each_once_type.the_row) global.the_row
+          (queue.TurnsTableRuleOptionDoingUnit.TheImpl.ghosts polled_type.the_row
+          (hands_type.the_row polled_type.the_row)
+          each_once_type.the_row
+          (each_once_protocol_hands_type.TheImpl.ghosts polled_type.the_row)
           queue.TurnsTableRuleOptionDoingUnit.TheImpl.no_dict) heap.ghosts
-          (option.the_send pool.polled.Polled.the_row polled_send) heap_send heap_sync frees,
+          (option.the_send polled_type.the_row polled_send) heap_send heap_sync frees,
       tt,
     ))
 
