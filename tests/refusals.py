@@ -7,13 +7,15 @@ is tried alone. A bundle that passed on this machine is tried again only if some
 
     refusals.py [NAME ..]      the edits of these crates, or of all; a file of an edit: this one alone
     refusals.py --stated FILE  the line `# refused:` for an edit, from a check of it alone
-    refusals.py --as-proved    each crate when a line of standard input names it as proved
+    refusals.py --as-proved    each crate when `rt ci`, whose lines are its standard input, has proved it, over what
+                               `rt ci` keeps of it for the crate's own wrong bodies
     refusals.py --anew         repeats what earlier runs passed
 
 The libraries are those that were built last. The last line is 'N passed, M failed'."""
 import argparse
 import collections
 import concurrent.futures
+import contextlib
 import functools
 import hashlib
 import importlib.machinery
@@ -251,11 +253,31 @@ def key_of(crate, edits, what):
     return total.hexdigest()
 
 
+def linked(one, other):
+    """Gives what was proved a second name, as `rt ci` does: a check replaces such a file, and never writes into it."""
+    return (os.link if one.endswith(".oantt") else shutil.copy2)(one, other)
+
+
+def seed_of(crate, room):
+    """The folder in a room of what the `rt ci` that runs here just proved of a crate, and begins the crate's own wrong
+    bodies with. It is empty if there is none, or if it goes meanwhile: then the first check proves the same again."""
+    for at in pathlib.Path(room).parent.glob(f"rt-edits-*/seed/*/Rattle-{crate.name}-*"):
+        runner, seed = at.parents[2].name.split("-")[2], at.parents[1]
+        if os.path.realpath(f"/proc/{runner}/cwd") == str(TOP):
+            with contextlib.suppress(OSError, shutil.Error):
+                return shutil.copytree(seed, f"{room}/seed", copy_function=linked)
+            break
+    return tempfile.mkdtemp(dir=room)
+
+
 class Trial:
     """The bundles of a crate, one after the other: each check goes on from what the one before left."""
 
     def __init__(self, crate, is_anew, names=()):
-        self.crate, self.is_anew, self.checks, self.kept = crate, is_anew, 0, None
+        self.crate, self.is_anew, self.checks = crate, is_anew, 0
+        self.room = tempfile.TemporaryDirectory(prefix="refusals-")
+        self.kept = seed_of(crate, self.room.name)
+        self.is_seeded = bool(os.listdir(self.kept))
         self.edits = [it for it in edits_of(crate) if not names or str(it.path) in names]
         self.failed = {it.path: why for it in self.edits if (why := "; ".join(unfit(it)))}
 
@@ -302,7 +324,7 @@ class Trial:
     def run(self):
         """Tries all, and says how it went. Returns how many passed and failed."""
         begun, whole = time.monotonic(), [it for it in self.edits if it.path not in self.failed]
-        with tempfile.TemporaryDirectory(prefix="refusals-") as self.kept:
+        with self.room:
             # The controls first: over what they leave, a bundle has little more to prove than what it changes. So each
             # stays in its place beside later ones.
             placed = []
@@ -312,15 +334,23 @@ class Trial:
             for edits in bundles_of(self.crate, whole):
                 self.tried("refused", edits, self.refused)
         print(*[f"{path.relative_to(TOP / 'crates')}: {why}" for path, why in self.failed.items()],
-              f"{self.crate.name}: {len(self.edits)} edits in {self.checks} checks, {time.monotonic() - begun:.0f} s",
+              f"{self.crate.name}: {len(self.edits)} edits in {self.checks} checks, {time.monotonic() - begun:.0f} s"
+              + ", over what rt ci proved" * self.is_seeded,
               sep="\n", flush=True)
         return len(self.edits) - len(self.failed), len(self.failed)
 
 
 def proved_crates(lines):
-    """The crates with edits, in the order in which they are named as proved."""
-    named = (re.match(r"(?:rt: )?(\w+)(?: proved| is kept|$)", line) for line in lines)
-    return (CRATES[it[1]] for it in named if it and it[1] in CRATES and edits_of(CRATES[it[1]]))
+    """The crates with edits, in the order in which they are named as proved. One with several wrong bodies of its own
+    waits until `rt ci` names these, so that it has what it begins them with. If it tries none, the crate comes last."""
+    early = []
+    for named in filter(None, (re.match(r"(?:rt: )?(\w+)( proved| is kept|: trying|$)", line) for line in lines)):
+        crate, paths = CRATES.get(named[1]), guarantees().edits_of(named[1])
+        if crate and named[2] == " proved" and sum(it.parent.name == "must-fail" for it in paths) > 1:
+            early.append(crate)
+        elif crate and paths:
+            yield crate
+    yield from early
 
 
 def main():

@@ -5,6 +5,7 @@ import select
 import shutil
 import subprocess
 import sys
+import time
 
 import pytest
 
@@ -27,9 +28,11 @@ pub fn last(x: u64) -> u64
 """
 PROVER = r'''
 import pathlib, re, sys
-open(sys.argv[sys.argv.index("--incremental") + 1] + "/../checks", "a").write("x")
+kept = pathlib.Path(sys.argv[sys.argv.index("--incremental") + 1])
 text = pathlib.Path("src/lib.rt").read_text()
-open(sys.argv[sys.argv.index("--incremental") + 1] + "/../texts", "a").write(text + "\0")
+seeds = [it.name for it in kept.rglob("*.oantt")]
+for name, seen in [("checks", "x"), ("texts", f"{text}\0"), ("seeds", f"{seeds}\n")]:
+    open(kept.parents[1] / name, "a").write(seen)
 if "unread" in text:
     sys.exit("error[parse]: what is this?")
 found = dict(re.findall(r"fn (\w+)\(.*?\n\{\n(.*?)\n\}", text, re.S))
@@ -167,6 +170,48 @@ def test_a_crate_is_tried_while_others_are_proved(tree):
         assert select.select([running.stdout], [], [], 20)[0], "nothing was tried yet"
         assert running.stdout.readline().startswith("zs_a: 1 edits in 1 checks")
         assert running.communicate()[0] == "1 passed, 0 failed\n"
+
+
+OWN = ["# It does something else.", "# no control: none", "# refused: zs_a::next value", "new: wrong"]
+TRYING = "rt: zs_a: trying its must-fail edits (2)\n"
+
+
+def over_seed(tree, runner, *lines):
+    """Whether the script says that two own wrong bodies begin over what was proved, and over which proofs the first
+    check does, if a process has them a second after the first line."""
+    for name in ["one", "two"]:
+        add(tree, name, OWN, "must-fail")
+    with begun(tree, "--as-proved") as running:
+        for line in ["rt: zs_a proved\n", *lines]:
+            running.stdin.write(line)
+            running.stdin.flush()
+            time.sleep(1)
+            folder = tree / f"rt-edits-{runner}-a/seed/one"
+            folder.mkdir(parents=True, exist_ok=True)
+            (folder / "Rattle-zs_a-next.oantt").touch()
+        shown, errors = running.communicate()
+    assert errors == "" and shown.endswith("\n2 passed, 0 failed\n"), errors + shown
+    return "over what rt ci proved" in shown, (tree / "seeds").read_text().splitlines()[0]
+
+
+def test_own_wrong_bodies_begin_over_what_was_proved_for_them(tree):
+    with subprocess.Popen(["sleep", "20"], cwd=tree) as runner:
+        assert over_seed(tree, runner.pid, TRYING) == (True, "['Rattle-zs_a-next.oantt']")
+        runner.kill()
+
+
+def test_a_crate_whose_own_wrong_bodies_are_not_tried_comes_last(tree):
+    assert over_seed(tree, os.getpid()) == (False, "[]")
+
+
+@pytest.mark.parametrize("is_gone", [True, False])
+def test_a_seed_of_another_checkout_or_one_that_goes_is_not_taken(is_gone, tree):
+    with subprocess.Popen(["sleep", "20"], cwd=tree if is_gone else "/") as runner:
+        if is_gone:
+            (tree / f"rt-edits-{runner.pid}-a/seed").mkdir(parents=True)
+            (tree / f"rt-edits-{runner.pid}-a/seed/judged").symlink_to("nowhere")
+        assert over_seed(tree, runner.pid, TRYING) == (False, "[]")
+        runner.kill()
 
 
 def test_a_check_of_an_edit_alone_states_what_refuses_it(tree):
