@@ -139,7 +139,7 @@ def cost(work, times=1):
     return min(found)
 
 
-def ratio(work, number, times=5):
+def ratio(work, number, times=3):
     """How much the cost grows from half of a number to the number."""
     for _ in range(5):
         found = cost(lambda: work(number), times) / max(1, cost(lambda: work(number // 2), times))
@@ -163,7 +163,7 @@ def grows(compiled, method, context):
     while number < min(MOST_UNITS, LONGEST // len(unit)) and cost(lambda: work(number)) < LONG:
         number *= 2
     # A single time may be too long by what else the process did.
-    if cost(lambda: work(number), 3) < LONG:
+    if any(cost(lambda: work(number)) < LONG for _ in range(3)):
         return None
     found = ratio(work, number)
     return (number, round(found, 1)) if found > MOST_RATIO else None

@@ -2,6 +2,7 @@
 range, and their quartiles are the same but for 2 % of it. Settings of docs/POLICIES.md, beside the packages'."""
 import inspect
 import json
+import os
 import pathlib
 import random
 import re
@@ -142,7 +143,7 @@ def by_cenkalti(room):
     """The package's Go, compiled where it is."""
     def runs(count):
         (room / "main.go").write_text(GO % (RUNS, count))
-        given = {"GOPATH": "/usr/share/gocode", "GO111MODULE": "off", "GOCACHE": str(room / "cache")}
+        given = {"GOPATH": "/usr/share/gocode", "GO111MODULE": "off", "HOME": os.environ["HOME"]}
         found = subprocess.run(["/usr/bin/go", "run", "main.go"], cwd=room, env=given, check=True, capture_output=True,
                                text=True)
         waits = list(map(float, found.stdout.split()))
