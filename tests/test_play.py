@@ -324,6 +324,26 @@ def test_it_ends_at_once_whatever_is_connected(tmp_path, number, name):
     assert [it for it in running if os.path.exists(f"/proc/{it}")] == []
 
 
+# A library's code in which Ctrl-C becomes another error, as it can in one that waits for a thread.
+LIBRARY = """import socketserver, time
+def begin(self, request, address):
+    try:
+        time.sleep(1)
+    except KeyboardInterrupt:
+        raise RuntimeError("release unlocked lock")
+socketserver.ThreadingMixIn.process_request = begin
+"""
+
+
+def test_it_ends_by_a_signal_within_a_library(tmp_path):
+    (tmp_path / "sitecustomize.py").write_text(LIBRARY)
+    program, _ = noting(tmp_path, "exit 0")
+    with served(program, PYTHONPATH=str(tmp_path)) as (server, url), sending(url, ""):
+        time.sleep(0.5)
+        server.send_signal(signal.SIGINT)
+        assert (server.wait(timeout=8), server.stderr.read()) == (0, "")
+
+
 def test_two_plans_run_at_a_time(tmp_path):
     program, file = noting(tmp_path, "sleep 0.3", "echo end >> $(dirname $0)/noted", "echo polls 0")
     with in_process(program, "") as url, concurrent.futures.ThreadPoolExecutor() as pool:

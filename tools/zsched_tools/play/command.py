@@ -304,14 +304,13 @@ def serve(given):
     except OSError as fault:
         raise command.Refused(f"port {given.port}: {fault.strerror}") from fault
     with server:
-        try:
-            signal.signal(signal.SIGTERM, signal.default_int_handler)
-            paint = command.Paint(given.color, sys.stdout)
-            found = {"url": server.url(), "zsched": programs.zsched, "bounds": programs.bounds}
-            print(json.dumps(found) if given.json else f"zsched-play: {paint('strong', server.url())}", flush=True)
-            server.serve_forever()
-        except KeyboardInterrupt:
-            signal.signal(signal.SIGINT, signal.SIG_IGN)
+        # An exception in the main thread could end in a library's handler: another thread ends the loop.
+        for number in (signal.SIGINT, signal.SIGTERM):
+            signal.signal(number, lambda *_: threading.Thread(target=server.shutdown, daemon=True).start())
+        paint = command.Paint(given.color, sys.stdout)
+        found = {"url": server.url(), "zsched": programs.zsched, "bounds": programs.bounds}
+        print(json.dumps(found) if given.json else f"zsched-play: {paint('strong', server.url())}", flush=True)
+        server.serve_forever(0.1)
 
 
 def arguments():
