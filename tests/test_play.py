@@ -344,6 +344,20 @@ def test_it_ends_by_a_signal_within_a_library(tmp_path):
         assert (server.wait(timeout=8), server.stderr.read()) == (0, "")
 
 
+# At Python's end a thread can't begin. Ctrl-C ends each tool there.
+AT_EXIT = """import atexit, signal
+atexit.register(lambda: print(signal.getsignal(signal.SIGTERM) == signal.SIG_IGN, flush=True))
+"""
+
+
+def test_a_second_signal_changes_nothing(tmp_path):
+    (tmp_path / "sitecustomize.py").write_text(AT_EXIT)
+    program, _ = noting(tmp_path, "exit 0")
+    with served(program, PYTHONPATH=str(tmp_path)) as (server, _):
+        server.send_signal(signal.SIGINT)
+        assert (server.wait(timeout=8), server.stdout.read(), server.stderr.read()) == (0, "True\n", "")
+
+
 def test_two_plans_run_at_a_time(tmp_path):
     program, file = noting(tmp_path, "sleep 0.3", "echo end >> $(dirname $0)/noted", "echo polls 0")
     with in_process(program, "") as url, concurrent.futures.ThreadPoolExecutor() as pool:

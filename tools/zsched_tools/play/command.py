@@ -29,6 +29,8 @@ from zsched_tools import bounding, command, faults, hints, plan_size, program
 from zsched_tools.words import one_line
 
 ADDRESS = "127.0.0.1"
+# The signals that end it. While it ends, they change nothing.
+ENDS = (signal.SIGINT, signal.SIGTERM)
 PORT = 8642
 # The programs that run at a time, and the seconds and bytes that each may take.
 RUNS, SECONDS, MEMORY = 2, 10, 1 << 30
@@ -303,10 +305,16 @@ def serve(given):
         server = Server(given.port, programs, given.title)
     except OSError as fault:
         raise command.Refused(f"port {given.port}: {fault.strerror}") from fault
+
+    def end(*_):
+        """Lets another thread end the loop: an exception in this one could end in a library's handler."""
+        for number in ENDS:
+            signal.signal(number, signal.SIG_IGN)
+        threading.Thread(target=server.shutdown, daemon=True).start()
+
     with server:
-        # An exception in the main thread could end in a library's handler: another thread ends the loop.
-        for number in (signal.SIGINT, signal.SIGTERM):
-            signal.signal(number, lambda *_: threading.Thread(target=server.shutdown, daemon=True).start())
+        for number in ENDS:
+            signal.signal(number, end)
         paint = command.Paint(given.color, sys.stdout)
         found = {"url": server.url(), "zsched": programs.zsched, "bounds": programs.bounds}
         print(json.dumps(found) if given.json else f"zsched-play: {paint('strong', server.url())}", flush=True)
