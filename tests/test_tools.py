@@ -101,6 +101,18 @@ def test_a_command_looks_for_an_old_python_before_it_reads_its_own_files(path, m
     assert capsys.readouterr() == ("", f"{path.name}: needs Python 3.11 or later, and this is Python 3.10\n")
 
 
+def test_a_tool_stores_its_bytecode_and_reads_no_module_of_its_own_for_its_version(tmp_path):
+    shutil.copytree(TOP / "tools", tmp_path / "tools", ignore=shutil.ignore_patterns("__pycache__"))
+    words = [sys.executable, "-X", "importtime", tmp_path / "tools/zsched_tools", "zsched-try"]
+    # What the frame of all tools imports, and what this tool does beside it.
+    frame, own = {"hints", "words"}, {"drawn", "bounding"}
+    for word, is_found in [("--version", lambda it: it == frame), ("-h", lambda it: it > frame | own)]:
+        status, _, errors = run_tool([*words, word], PYTHONDONTWRITEBYTECODE="")
+        assert status == 0 and is_found(set(re.findall(r"\| +zsched_tools\.([\w.]+)$", errors, re.M))), word
+    compiled = {it.name.partition(".")[0] for it in (tmp_path / "tools/zsched_tools").rglob("*.pyc")}
+    assert compiled > frame | own
+
+
 def test_a_limit_has_one_name_in_all_tools_and_files():
     for words in [["zsched-try"], ["zsched-policy", "check"]]:
         found = output_of([TOP / "tools" / words[0], *words[1:], "-h"])

@@ -8,7 +8,6 @@ import sys
 
 LEAST = (3, 11)
 
-sys.dont_write_bytecode = True
 sys.path[0] = os.path.dirname(os.path.dirname(os.path.abspath(__file__)))
 sys.argv.pop(0)
 tool = os.path.basename(sys.argv[0])
@@ -26,5 +25,8 @@ def end(*_):
 signal.signal(signal.SIGINT, end)
 # The shell's lines of each tool block it until here, if `env` can.
 signal.pthread_sigmask(signal.SIG_UNBLOCK, [signal.SIGINT])
-# `try` can't be the name of a package.
-sys.exit(importlib.import_module("zsched_tools." + tool[len("zsched-"):].replace("try", "trying") + ".command").main())
+# `try` can't be the name of a package. The version is printed before the tool's own modules are read.
+is_version = sys.argv[1:] == ["--version"]
+package = "" if is_version else tool[len("zsched-"):].replace("try", "trying") + "."
+command = importlib.import_module("zsched_tools." + package + "command")
+sys.exit(command.print_version(tool) if is_version else command.main())

@@ -163,6 +163,11 @@ def version():
     return "unknown"
 
 
+def print_version(tool):
+    """Prints what --version prints, and returns the exit status."""
+    return run(tool, lambda: print(tool, version()))
+
+
 class Formatter(argparse.RawDescriptionHelpFormatter):
     """Help in the width of the terminal."""
 
