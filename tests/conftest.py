@@ -65,9 +65,8 @@ def below_floors(config):
     floor = {name: number for name, number in floors().items() if name.startswith("test_")}
     is_whole = any(pathlib.Path(word).is_dir() for word in config.args)
     names = {path.name for path in (TOP / "tests").glob("test_*.py")}
-    for name in sorted(names | floor.keys() if is_whole else {pathlib.Path(word).name for word in config.args}):
-        if "::" in name:
-            continue
+    whole = {pathlib.Path(word).name for word in config.args if "::" not in word}
+    for name in sorted(names | floor.keys() if is_whole else whole):
         if name not in floor:
             yield f"tests/floors.txt has no number for {name}"
         elif counts.get(name, 0) < floor[name]:

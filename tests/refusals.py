@@ -5,11 +5,11 @@ CONTRIBUTING.md has the form of an edit. Edits of one crate are checked together
 of the functions that their files name the prover says which of their own clauses failed. What a bundle leaves unclear
 is tried alone. A bundle that passed on this machine is tried again only if something changed of what it read.
 
-    refusals.py [NAME ..]      the edits of these crates, or of all; a file of an edit: this one alone
-    refusals.py --stated FILE  the line `# refused:` for an edit, from a check of it alone
-    refusals.py --as-proved    each crate when `rt ci`, whose lines are its standard input, has proved it, over what
-                               `rt ci` keeps of it for the crate's own wrong bodies
-    refusals.py --anew         repeats what earlier runs passed
+    refusals.py [CRATE ..]           the edits of these crates, or of all; CRATE/NAME: of an edit alone
+    refusals.py --stated CRATE/NAME  the line `# refused:` for an edit, from a check of it alone
+    refusals.py --as-proved          each crate when `rt ci`, whose lines are its standard input, has proved it, over
+                                     what `rt ci` keeps of it for the crate's own wrong bodies
+    refusals.py --anew               repeats what earlier runs passed
 
 The libraries are those that were built last. The last line is 'N passed, M failed'."""
 import argparse
@@ -55,10 +55,10 @@ def guarantees():
     return module
 
 
-def edit_of(path):
+def edit_of(source):
     """An edit: what its lines say, and its changes: the file, the old text, the new one, and that of its control."""
     said, changes, faults = collections.defaultdict(str), [], []
-    for line in path.read_text(encoding="utf-8").splitlines():
+    for line in source.text.splitlines():
         word, _, text = line.partition(":")
         text = text.removeprefix(" ")
         if word == "new":
@@ -71,12 +71,12 @@ def edit_of(path):
         else:
             faults += [f"what is the line '{line}'?"] * (not line.startswith("# ") or bool(changes))
             said["says"] += line[2:]
-    return types.SimpleNamespace(path=path, changes=changes, says=said["says"], refused=said["# refused"],
-                                 because=said["# because"], has_control=bool(said["# control"]),
-                                 no_control=said["# no control"], faults=faults)
+    return types.SimpleNamespace(source=source, label=source.label, folder=source.folder, changes=changes,
+                                 says=said["says"], refused=said["# refused"], because=said["# because"],
+                                 has_control=bool(said["# control"]), no_control=said["# no control"], faults=faults)
 
 
-def edits_of(crate): return [edit_of(path) for path in guarantees().edits_of(crate.name)]
+def edits_of(crate): return [edit_of(it) for it in guarantees().edits_of(crate.name)]
 
 
 class Unclear(Exception):
@@ -104,7 +104,7 @@ def go_together(crate, edits, place=2):
 
 def touched(edit):
     """The functions that an edit changes, and those that name a type that it changes."""
-    found, folder = set(guarantees().edited_functions(edit.path)), edit.path.parents[1]
+    found, folder = set(guarantees().edited_functions(edit.source)), edit.folder
     for file, old, *_ in edit.changes:
         before = (folder / file).read_text(encoding="utf-8").partition(old)[0]
         for kind in re.findall(r"^(?:pub(?:\(\w+\))? )?(?:struct|enum) (\w+)(?:(?!^\}).)*\Z", before, re.M | re.S):
@@ -208,10 +208,10 @@ def unfit(edit):
     """What an edit's file lacks: a reason for a refusal by no clause of the edited function, the request, a control."""
     yield from edit.faults
     function, _, kind = edit.refused.partition(" ")
-    is_own = function.rpartition("::")[2] in {name for _, name in guarantees().edited_functions(edit.path)}
-    if not (is_own and kind in clauses_of(edit.path.parents[1], function)) and not edit.because:
+    is_own = function.rpartition("::")[2] in {name for _, name in guarantees().edited_functions(edit.source)}
+    if not (is_own and kind in clauses_of(edit.folder, function)) and not edit.because:
         yield f"{kind or 'nothing'} is no clause of a function that it edits, and no line '# because:' says why"
-    if edit.path.parent.name == "must-fail":
+    if edit.source.is_asked:
         if not edit.says:
             yield "it doesn't begin with what the body does wrong"
         if edit.has_control == bool(edit.no_control):
@@ -227,7 +227,7 @@ def refusal(edit, status, lines, found):
         return f"the check ended with status {status}, and says nothing of {function}: {said}"
     if it.is_proved:
         return f"{function} is proved"
-    clear, clauses = it.hand | (set() if it.gone else it.searched), clauses_of(edit.path.parents[1], function)
+    clear, clauses = it.hand | (set() if it.gone else it.searched), clauses_of(edit.folder, function)
     if kind in {kind_of(goal, clauses) for goal in clear}:
         return ""
     if it.gone:
@@ -237,7 +237,7 @@ def refusal(edit, status, lines, found):
 
 def stated(crate, edit, found):
     """The functions that an edit changes and whose own goals failed, as lines `# refused:` that it may have."""
-    own = {name for _, name in guarantees().edited_functions(edit.path)}
+    own = {name for _, name in guarantees().edited_functions(edit.source)}
     for name, it in sorted(found.items(), key=lambda pair: pair[0].rpartition("::")[2] not in own):
         for goal in sorted(it.hand | it.searched):
             remark = " (names are gone)" * bool(it.gone and goal not in it.hand)
@@ -246,9 +246,10 @@ def stated(crate, edit, found):
 
 def key_of(crate, edits, what):
     """The checksum of all that a check of a bundle reads."""
-    total = hashlib.sha256(repr((what, crate.libraries, (kit() / "KIT-ID").read_bytes())).encode())
+    texts = sorted((it.label, it.source.text) for it in edits)
+    total = hashlib.sha256(repr((what, crate.libraries, (kit() / "KIT-ID").read_bytes(), texts)).encode())
     files = [path for each in [crate, *crate.below] for part in PARTS for path in (each.folder / part).rglob("*.*t")]
-    for path in [pathlib.Path(__file__), *sorted(files), *sorted(it.path for it in edits)]:
+    for path in [pathlib.Path(__file__), *sorted(files)]:
         total.update(f"\0{path.relative_to(TOP)}\0".encode() + path.read_bytes())
     return total.hexdigest()
 
@@ -278,8 +279,8 @@ class Trial:
         self.room = tempfile.TemporaryDirectory(prefix="refusals-")
         self.kept = seed_of(crate, self.room.name)
         self.is_seeded = bool(os.listdir(self.kept))
-        self.edits = [it for it in edits_of(crate) if not names or str(it.path) in names]
-        self.failed = {it.path: why for it in self.edits if (why := "; ".join(unfit(it)))}
+        self.edits = [it for it in edits_of(crate) if not names or it.label in names]
+        self.failed = {it.label: why for it in self.edits if (why := "; ".join(unfit(it)))}
 
     def checked(self, edits, place=2, functions=()):
         """What one check says with some edits in place: its status, its lines, and what it says of each function."""
@@ -292,13 +293,13 @@ class Trial:
         try:
             said = self.checked(edits, functions=sorted({it.refused.partition(" ")[0] for it in edits}))
         except Unclear as why:
-            return {edits[0].path: str(why)}
-        unclear = {it.path: why for it in edits if (why := refusal(it, *said))}
+            return {edits[0].label: str(why)}
+        unclear = {it.label: why for it in edits if (why := refusal(it, *said))}
         if len(edits) == 1:
             return unclear
-        for path, why in unclear.items():
-            print(f"{self.crate.name}: {path.stem} is tried alone, since {why}", flush=True)
-        return {path: why for it in edits if it.path in unclear for path, why in self.refused([it]).items()}
+        for label, why in unclear.items():
+            print(f"{label} is tried alone, since {why}", flush=True)
+        return {label: why for it in edits if it.label in unclear for label, why in self.refused([it]).items()}
 
     def proved(self, edits):
         """Tries the controls of some edits together, and alone if not all is proved. Returns why some aren't."""
@@ -306,10 +307,10 @@ class Trial:
         if status == 0:
             return {}
         if len(edits) > 1:
-            return {path: why for it in edits for path, why in self.proved([it]).items()}
+            return {label: why for it in edits for label, why in self.proved([it]).items()}
         said = [f"{name}: {', '.join(sorted(goals))}" for name, it in found.items()
                 if not it.is_proved and (goals := it.hand | it.searched | it.gone)]
-        return {edits[0].path: f"its control isn't proved: {'; '.join(said) or lines[-1:]}"}
+        return {edits[0].label: f"its control isn't proved: {'; '.join(said) or lines[-1:]}"}
 
     def tried(self, what, edits, call):
         """Tries a bundle unless it passed here before over the same files."""
@@ -323,7 +324,7 @@ class Trial:
 
     def run(self):
         """Tries all, and says how it went. Returns how many passed and failed."""
-        begun, whole = time.monotonic(), [it for it in self.edits if it.path not in self.failed]
+        begun, whole = time.monotonic(), [it for it in self.edits if it.label not in self.failed]
         with self.room:
             # The controls first: over what they leave, a bundle has little more to prove than what it changes. So each
             # stays in its place beside later ones.
@@ -333,7 +334,7 @@ class Trial:
                 self.tried("proved", placed, self.proved)
             for edits in bundles_of(self.crate, whole):
                 self.tried("refused", edits, self.refused)
-        print(*[f"{path.relative_to(TOP / 'crates')}: {why}" for path, why in self.failed.items()],
+        print(*[f"{label}: {why}" for label, why in self.failed.items()],
               f"{self.crate.name}: {len(self.edits)} edits in {self.checks} checks, {time.monotonic() - begun:.0f} s"
               + ", over what rt ci proved" * self.is_seeded,
               sep="\n", flush=True)
@@ -345,10 +346,10 @@ def proved_crates(lines):
     waits until `rt ci` names these, so that it has what it begins them with. If it tries none, the crate comes last."""
     early = []
     for named in filter(None, (re.match(r"(?:rt: )?(\w+)( proved| is kept|: trying|$)", line) for line in lines)):
-        crate, paths = CRATES.get(named[1]), guarantees().edits_of(named[1])
-        if crate and named[2] == " proved" and sum(it.parent.name == "must-fail" for it in paths) > 1:
+        crate, edits = CRATES.get(named[1]), guarantees().edits_of(named[1])
+        if crate and named[2] == " proved" and sum(it.is_asked for it in edits) > 1:
             early.append(crate)
-        elif crate and paths:
+        elif crate and edits:
             yield crate
     yield from early
 
@@ -360,15 +361,18 @@ def main():
     words.add_argument("--stated", action="store_true")
     words.add_argument("names", nargs="*", metavar="NAME")
     given = words.parse_args()
-    files = {str(pathlib.Path(it).resolve()) for it in given.names if it.endswith(".edit")}
-    names = [pathlib.Path(it).parts[-3] for it in files] + [it for it in given.names if it in CRATES]
+    edits = {it.label: it for crate in CRATES.values() for it in edits_of(crate)}
+    if unknown := [it for it in given.names if it not in {*edits, *CRATES}]:
+        words.error(f"there is no crate and no edit {unknown[0]}")
+    labels = {*given.names} & {*edits}
     if given.stated:
-        for it in sorted(files):
-            crate, edit = CRATES[pathlib.Path(it).parts[-3]], edit_of(pathlib.Path(it))
+        for it in sorted(labels):
+            crate, edit = CRATES[edits[it].folder.name], edits[it]
             with tempfile.TemporaryDirectory(prefix="refusals-") as kept:
                 status, lines = check(crate, applied(crate, [edit]), kept)
             print(it, f"status {status}", *stated(crate, edit, findings(crate, lines)), sep="\n", flush=True)
         return 0
+    names = [it.partition("/")[0] for it in given.names]
     crates = proved_crates(sys.stdin if given.as_proved else names or CRATES)
     # It sets a handler of a signal, which the main thread alone can do.
     toolchain()[0].guarded()
@@ -377,7 +381,7 @@ def main():
         # Each crate begins when it is named, while the names of others are yet to come.
         for crate in crates:
             if crate.name not in running:
-                running[crate.name] = pool.submit(Trial(crate, given.anew, files).run)
+                running[crate.name] = pool.submit(Trial(crate, given.anew, labels).run)
         passed, failed = map(sum, zip((0, 0), *(it.result() for it in running.values())))
     print(f"{passed} passed, {failed} failed")
     return 1 if failed or not passed else 0

@@ -1,11 +1,13 @@
 """Reports for the tests of zsched-report: those of its cases, and long ones."""
+from case_files import cases
 from support import TOP
 
 RETRIED, RUNNING, COARSE, NEVER, WAITING, GREATEST = REPORTS = [
-    (TOP / "tests" / "cases" / "zsched-report" / name / "report").read_text() for name in [
+    cases()[f"zsched-report/{name}"].text("report") for name in [
         "a_retry_that_succeeds", "an_attempt_that_runs_at_the_horizon", "steps_of_a_coarse_clock",
         "a_job_that_never_begins", "a_wait_at_the_horizon_and_a_failed_repeat", "the_greatest_numbers"]]
 KNOWN = sorted([*TOP.glob("examples/*.stdout"), *TOP.glob("tests/plans/*.stdout")])
+assert len(KNOWN) > 70
 
 
 def long_report(attempts):

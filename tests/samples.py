@@ -2,7 +2,7 @@
 inputs of them in which one or some values are others of the same format."""
 import re
 
-from support import TOP
+from case_files import unpacked
 
 MOST_BYTES, MOST_OF_A_KIND = 2500, 12
 _FORMS = {"json": "json", "jsonl": "json", "yaml": "yaml", "yml": "yaml", "toml": "toml", "csv": "csv", "tsv": "csv",
@@ -26,7 +26,7 @@ def _is_log(path):
 def samples():
     """Pairs of a tool and a file."""
     for tool in ["policy", "follows", "plan", "explain", "outage", "report"]:
-        files = sorted(TOP.glob(f"tests/cases/zsched-{tool}/*/*.*"))
+        files = sorted(unpacked(f"zsched-{tool}").glob("*/*.*"))
         files = [it for it in files if it.suffix[1:] in _FORMS and it.stat().st_size < MOST_BYTES
                  and places(form_of(it), it.read_text("utf-8", "replace"))]
         for suffix in sorted({it.suffix for it in files}):

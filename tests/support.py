@@ -38,15 +38,20 @@ def plan(jobs=None, horizon='"horizon":1000', more=""):
     return f'{{{horizon}{more},"jobs":[{listed}]}}'.encode()
 
 
-# The plans that have a report next to them, in the order of their names; and that report.
-def plans_with_reports(): return sorted([*TOP.glob("examples/*.json"), *TOP.glob("tests/plans/*.json")])
+def plans_with_reports():
+    """The plans that have a report next to them, in the order of their names."""
+    found = sorted([*TOP.glob("examples/*.json"), *TOP.glob("tests/plans/*.json")])
+    assert len(found) > 70
+    return found
+
+
 def report_beside(path): return path.with_name(path.name + ".stdout").read_bytes()
 
 
 def rows(name):
     """The rows of a table in this folder, each a line of JSON. The first line names the test and the columns."""
     head, *found = [json.loads(line) for line in (TOP / "tests" / name).read_text(encoding="utf-8").splitlines()]
-    assert re.match(r"test_\w+\.py: \w", head), f"{name} has no head"
+    assert found and re.match(r"test_\w+\.py: \w", head), f"{name} has no head, or no row"
     return found
 
 
@@ -129,6 +134,8 @@ def output_of(words, **more):
 
 def run_here(main, words, given=b""):
     """Runs the main function of a command in this process: its status, standard output and standard error."""
+    # Some tests take this file along, and no tools.
+    from zsched_tools import command
     streams = {"stdin": io.TextIOWrapper(io.BytesIO(given)), "stdout": io.TextIOWrapper(io.BytesIO(), "utf-8"),
                "stderr": io.StringIO()}
     with mock.patch.multiple(sys, argv=[str(it) for it in words], **streams):
@@ -138,6 +145,8 @@ def run_here(main, words, given=b""):
             status = ended.code
         finally:
             gc.enable()
+            # The next test in this process has other options.
+            command._colored[0], command._quiet[0] = "auto", False
     streams["stdout"].flush()
     return status, streams["stdout"].buffer.getvalue().decode(), streams["stderr"].getvalue()
 

@@ -18,24 +18,25 @@ import types
 sys.dont_write_bytecode = True
 
 from support import TOP
+from sections import sections_of
 import unproved
 
 FUNCTION = re.compile(r"^( *)(?:pub(?:\([^)]*\))? )?(?:const )?fn \w+", re.M)
 CHOSEN = 'unsafe extern "C" {\n    pub(crate) safe fn zs_chosen() -> u64;\n}\n'
 
 
-def survivor(number, path):
+def survivor(number, section):
     """A body: its number, name and crate, what catches it, and the pairs of old and new texts after each `file:`."""
     pairs, said = [], {}
-    for line in path.read_text(encoding="utf-8").splitlines():
+    for line in section.text.splitlines():
         word, _, text = line.partition(":")
-        assert word in ["caught-by", "refused-by", "file", "old", "new"], f"{path}: {line}"
+        assert word in ["caught-by", "refused-by", "file", "old", "new"], f"{section.path}: {section.name}: {line}"
         said[word] = text.removeprefix(" ")
         if word == "file":
             pairs.append((said["file"], []))
         elif word == "new":
             pairs[-1][1].append((said["old"], said["new"]))
-    return types.SimpleNamespace(number=number, name=path.stem, crate=path.parent.parent.name, pairs=pairs,
+    return types.SimpleNamespace(number=number, name=section.name, crate=section.path.parent.name, pairs=pairs,
                                  caught_by=said["caught-by"])
 
 
@@ -116,8 +117,9 @@ def judge(room, pool, survivors):
 
 
 def main(names):
-    paths = [it for it in sorted(TOP.glob("crates/*/survivors/*.edit")) if it.stem in names or not names]
-    survivors = [survivor(*pair) for pair in enumerate(paths, 1)]
+    found = [it for path in sorted(TOP.glob("crates/*/survivors.txt")) for it in sections_of(path)]
+    found = [it for it in found if it.name in names or not names]
+    survivors = [survivor(*pair) for pair in enumerate(found, 1)]
     with tempfile.TemporaryDirectory() as room, concurrent.futures.ThreadPoolExecutor(2) as pool:
         caught = judge(pathlib.Path(room), pool, survivors)
     for it, is_caught in zip(survivors, caught):

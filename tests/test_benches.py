@@ -12,7 +12,7 @@ import pytest
 
 import reference
 from languages import need
-from support import TOP, difference, executable, rows, run, run_here, run_tool
+from support import TOP, difference, executable, run, run_here, run_tool
 
 BENCHES = TOP / "benches"
 sys.path.insert(0, str(BENCHES))
@@ -121,7 +121,14 @@ def test_workers_are_measured_at_each_cut(zsched):
 
 
 # What is wrong, the commands of the program that is run, and a pattern of the error.
-@pytest.mark.parametrize("name, shell, wanted", rows("wrong_populations.jsonl"))
+@pytest.mark.parametrize("name, shell, wanted", [
+    ("a status", "exit 4", r"^population.py: one program ended with status 4\n$"),
+    ("no job", "cat > /dev/null; echo polls 0", "^population.py: the report isn't that of 1 jobs: .*polls 0"),
+    ("a range fails", "[ $# != 0 ] || exec $RIGHT; exit 4", r"^population.py: ranges ended with status 123\n$"),
+    ("another report of a range", '[ "$1" != --jobs ] || { echo polls 0; exit; }; exec $RIGHT "$@"',
+     r"report 1: incomplete, or no report of --jobs\npopulation.py: check ended with status 2\n$"),
+    ("another joined report", '[ "$1" != --check ] || { echo polls 0; exit; }; exec $RIGHT "$@"',
+     r"^population.py: the joined report isn't that of one program\n$")])
 def test_a_population_has_the_wrong_report(name, shell, wanted, population, tmp_path):
     wrong = executable(tmp_path / "script", shell)
     variables = {"ZSCHED_POPULATION": wrong, "RIGHT": str(population)}

@@ -33,7 +33,13 @@ BYTES = ["C", "C watched", "C++", "Go", "Node", "C on arm64", "Go on arm64", "No
 CRATES = pathlib.Path("/usr/share/cargo/registry")
 FAULTS = {text.encode(): fault for text, fault in rows("faulty_texts.jsonl")}
 # A policy, the code of the failures and how many there are; how it ends, and the milliseconds between attempts.
-RETRIES = rows("retries.jsonl")
+GROWING = "((exponential(4) || spaced(10)) && recurs(5)).whileInput(>= 500)"
+RETRIES = [
+    ("(exponential(10) && recurs(5))", 503, 3, "done", [10, 20, 40]),
+    ("(spaced(30) && recurs(2))", 503, 99, "503", [30, 30]),
+    (GROWING, 503, 4, "done", [4, 8, 10, 10]),
+    (GROWING, 404, 99, "404", []),
+    ("spaced(30).whileInput(!= 18446744073709551615)", 18446744073709551615, 9, "18446744073709551615", [])]
 # The forms of a retry, and the languages that have each.
 FORMS = {"retry": LANGUAGES, "later": ["Python", "Java", "Rust"], "loop": ["Python"], "later_loop": ["Python"]}
 LIMITED = {"limited": ["Go", "Node", "Java", "Rust"], "limited_later": ["Python", "Java", "Rust"],
@@ -45,17 +51,40 @@ PROMISED = rows("promised.jsonl")
 # which an attempt began and ended, its input and a draw; the line of the plans; how it was worked out by hand.
 TURNS = rows("turns.jsonl")
 # A policy, of which each attempt fails at once; the line of its attempts and its last begin; how it was worked out.
-RESTARTS = rows("restarts.jsonl")
+RESTARTS = [
+    ("(spaced(10) && elapsed).whileOutput(_2 < 500)", "47 506000000",
+     "steps at 1, 12, 23 .. ms: the 47th is 506 ms after the first; the one before it planned 496 + 10 ms"),
+    ("elapsed.whileOutput(< 200)", "201 200000000", "steps at 1, 2, 3 .. ms: the 201st is 200 ms after the first"),
+    ("(exponential(100) && recurs(5))", "6 3105000000", "1 + 100, 1 + 200, 1 + 400, 1 + 800, 1 + 1600 ms"),
+    ("(fixed(7) && recurs(20))", "21 141000000", "the window begins at 1 ms: 1 + 20 * 7"),
+    ("(linear(250) && elapsed).whileOutput(_2 < 1500)", "4 1503000000", "251 + 501 + 751: at 1504 ms 1503 have passed")]
 # A policy, what happens in a retry by it, and what each language prints of it: null if it has no such thing.
 ORDERS = rows("orders.jsonl")
 # A schedule; how many steps are examined, the least and most milliseconds of an attempt, the jitter in percent, the
 # longest least wait and the lateness in milliseconds; the numbers of zs_run_bounds; how they were worked out.
-DRIVERS = rows("drivers.jsonl")
+DRIVERS = [
+    ("(spaced(100) && recurs(3))", [1000, 1, 5, 20, 0, 0], "4 4 1 4 100 1 300 1 321",
+     "jitter alone lengthens no wait: 3 * 100, and four attempts of 5 ms"),
+    ("(spaced(100) && recurs(3))", [1000, 1, 5, 20, 2000, 50], "4 4 1 4 2050 1 6150 1 6171",
+     "each wait is at most 2000 ms, and 50 ms late"),
+    ("(exponential(100) && recurs(5))", [1000, 1, 5000, 0, 0, 50], "6 6 1 6 1650 1 3350 1 33351",
+     "3100 and 5 * 50 ms, and six attempts of 5 s"),
+    ("(spaced(100) && recurs(2))", [1000, 1, 5, 0, 3600000, 0], "3 3 1 3 3600000 1 7200000 1 7200016",
+     "each wait is an hour at most"),
+    ("(spaced(400) && elapsed).whileOutput(_2 < 2000)", [1000, 1, 5000, 50, 0, 0], "11 2 1 11 400 1 2394 1 12400",
+     "the 11th step has 10 * 201 ms at least; five waits in 1999 - 5 ms, and 400; 5000 + 1999 + 400 + 5000"),
+    ("elapsed.whileOutput(< 200)", [1000, 1, 5000, 0, 0, 2 ** 64 - 1], "201 2 1 201 18446744073709551615 0 0 0 0",
+     "any lateness: no bound of time, but of attempts")]
 ANY_LATENESS = 1, 2 ** 64 - 1, 0, 0, 2 ** 64 - 1
 # A policy, the code of all failures; a jitter in percent, a least wait in milliseconds, the code that isn't retried,
 # 1 for a shared budget, and the longest least wait, an hour if it isn't there; how many attempts there are at least and
 # most, and the least and most milliseconds of each wait. Jitter shortens waits, so elapsed passes more attempts.
-OPTIONS = rows("retry_options.jsonl")
+OPTIONS = [
+    ("(spaced(30) && recurs(2))", 7, [0, 0, 0, 0], 3, 3, 30, 30),
+    ("(spaced(10) && recurs(2))", 7, [50, 60, 0, 0], 3, 3, 60, 60),
+    ("(spaced(10) && recurs(2))", 7, [0, 0, 7, 0], 1, 1, 0, 0),
+    ("(spaced(20) && elapsed).whileOutput(_2 < 200)", 7, [100, 0, 0, 0], 5, 201, 0, 20),
+    ("(spaced(10) && recurs(2))", 7, [0, 9000000000000, 0, 0, 50], 3, 3, 50, 50)]
 # The text of no schedule, and its message. What is set in a retry that fails at once, and what each language prints.
 TEXTS_SAID, EDGES = rows("texts_said.jsonl"), rows("edges.jsonl")
 # The languages that have the edges and the messages of wrong texts.

@@ -9,6 +9,7 @@ import time
 
 import pytest
 
+from case_files import unpacked
 from support import TOP, executable, output_of, rows, run_here, run_tool
 from zsched_tools import bounding
 from zsched_tools.bounding import Driver
@@ -398,7 +399,7 @@ def test_a_file_of_limits_that_is_wrong_is_an_error_at_its_place(text, place, sa
 
 def samples():
     """Each file of a case, each of settings.jsonl, and one of a filter without another key."""
-    for path in sorted(TOP.glob("tests/cases/zsched-policy/*/*.*")):
+    for path in sorted(unpacked("zsched-policy").glob("*/*.*")):
         yield path.name, path.read_text(errors="replace")
     for number, (_, _, _, ending, text, one, _) in enumerate(rows("settings.jsonl")):
         yield f"{number}.{ending}", one.join(text.rsplit("@", 1))

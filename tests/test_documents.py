@@ -1,6 +1,5 @@
 """The documents: links have targets, what they name exists, the plans shown have the reports shown, the figures of
-docs/POLICIES.md are those of its plan, and the language is plain technical English, in comments of the crates too."""
-import functools
+docs/POLICIES.md are those of its plan, and lines of prose have at most 100 columns, in comments of the crates too."""
 import json
 import pathlib
 import re
@@ -17,7 +16,31 @@ PAGES = sorted({page for form in ["*.md", "*/README.md", "docs/*.md", "benches/*
 FOLDERS = ("benches/", "build/", "crates/", "docs/", "examples/", "tests/", "tools/", "zs_")
 README = (TOP / "README.md").read_text()
 FORMATS = (TOP / "docs" / "FORMATS.md").read_text()
-each_page = pytest.mark.parametrize("page", PAGES, ids=lambda page: str(page.relative_to(TOP)))
+
+
+def links_of(page):
+    """The targets of a page's links to files and headings."""
+    return [it for it in re.findall(r"\]\(([^)\s]+)\)", page.read_text()) if "://" not in it]
+
+
+def names_in(page):
+    """The names of the repository in a page's backquotes; capitals are any name. A crate's page also names the crate's
+    files."""
+    folders = (*FOLDERS, "src/", "specs/") if page.parent.parent.name == "crates" else FOLDERS
+    words = " ".join(re.findall(r"`([^`\n]+)`", page.read_text())).split()
+    return [word for word in words if word.startswith(folders) and re.fullmatch(r"[\w./-]+/[\w.-]+", word)
+            and not re.search("[A-Z]{3}", word)]
+
+
+def with_some(found_in):
+    """The pages in which something is found, as the parameter of a test that looks at it."""
+    return pytest.mark.parametrize("page", filter(found_in, PAGES), ids=lambda page: str(page.relative_to(TOP)))
+
+
+def test_pages_have_links_and_name_files():
+    for found_in, least, pages in [(links_of, 200, 20), (names_in, 150, 15)]:
+        found = [len(found_in(page)) for page in PAGES]
+        assert sum(found) > least and len([it for it in found if it]) > pages, found_in
 
 
 def anchor_of(title): return re.sub(r"[^a-z0-9_ -]", "", title.lower()).replace(" ", "-")
@@ -28,25 +51,20 @@ def anchors_of(page):
     return {anchor_of(title) for title in re.findall(r"^#+ (.*)$", outside, re.MULTILINE)}
 
 
-@each_page
+@with_some(links_of)
 def test_links_lead_to_files_and_headings(page):
     lost = []
-    for target in re.findall(r"\]\(([^)\s]+)\)", page.read_text()):
+    for target in links_of(page):
         name, _, anchor = target.partition("#")
         path = page.parent / name if name else page
-        if "://" not in target and not (path.exists() and (not anchor or anchor in anchors_of(path))):
+        if not (path.exists() and (not anchor or anchor in anchors_of(path))):
             lost.append(target)
     assert lost == []
 
 
-@each_page
+@with_some(names_in)
 def test_files_that_a_page_names_exist(page):
-    """Names of the repository in backquotes; capitals are any name. A crate's page also names the crate's files."""
-    folders = (*FOLDERS, "src/", "specs/") if page.parent.parent.name == "crates" else FOLDERS
-    words = " ".join(re.findall(r"`([^`\n]+)`", page.read_text())).split()
-    named = [word for word in words if word.startswith(folders) and re.fullmatch(r"[\w./-]+/[\w.-]+", word)
-             and not re.search("[A-Z]{3}", word)]
-    assert [name for name in named if not any(place.exists() for place in [
+    assert [name for name in names_in(page) if not any(place.exists() for place in [
         TOP / name, page.parent / name, TOP / "crates" / name, TOP / "crates" / f"{name}.antt"])] == []
 
 
@@ -100,6 +118,13 @@ def test_formats_shows_a_plan_and_its_report_also_as_json_lines(zsched):
     assert run_tool([TOP / "tools" / "zsched-report", "lines"], whole) == (0, shown, "")
 
 
+@pytest.mark.parametrize("page, shown", [("docs/TESTING.md", "tests/cases/zsched-policy.txt"),
+                                         ("CONTRIBUTING.md", "crates/zs_agenda/wrong.txt")])
+def test_the_case_and_the_edit_that_pages_show_are_in_their_files(page, shown):
+    text = re.search(r"```text\n(== .*?)```", (TOP / page).read_text(), re.S)[1]
+    assert f"\n{text}== " in (TOP / shown).read_text()
+
+
 HEAD, *SECTIONS = (TOP / "docs" / "POLICIES.md").read_text().split("\n## ")
 JOBS = json.loads((TOP / "examples" / "policies.json").read_text())["jobs"]
 RAN = jobs_of((TOP / "examples" / "policies.json.stdout").read_bytes())
@@ -125,52 +150,26 @@ def test_a_policy_has_its_schedule_and_the_part_of_each_setting(section, job):
 
 # The pages that are written by hand: the text of the promises is in comments of code.
 PROSE = tuple(page for page in PAGES if TOP / "benches" not in page.parents and page.name != "PROMISES.md")
-# A line of docs/POLICIES.md that build/policies prints, and the tables that build/recipes prints.
-PRINTED = re.compile(r"^(?:\||- Job ).*$", re.M)
 CODE = tuple(sorted(it for end in ("rt", "antt") for it in TOP.glob(f"crates/*/[sp]*/**/*.{end}")))
 # How a line of prose begins in a file of each kind.
 BEGINS = {".md": "", ".rt": r"\s*//[/!]? ?", ".antt": r"\s*-- ?"}
-WIDTH, MOST_WORDS = 100, 28000
-# What has another meaning here than elsewhere, what to write instead, and how often it is right in pages, comments.
-WORDS = [line.split("\t") for line in (TOP / "tests" / "words.tsv").read_text().splitlines()]
+WIDTH = 100
 
 
 def prose(files):
-    """The lines of pages and the comments of code, without samples: the place, the line, and its text."""
+    """The lines of pages and the comments of code, without samples, each with its place."""
     for file in files:
         is_sample, form = False, re.compile(BEGINS[file.suffix] + "(.*)")
         for number, line in enumerate(map(form.fullmatch, file.read_text().splitlines()), 1):
             is_sample ^= bool(line and line[1].startswith("```"))
             if line and not is_sample:
-                yield f"{file.relative_to(TOP)}:{number}", line[0], line[1]
-
-
-@functools.cache
-def sentences(files):
-    """The lines of pages or comments, each with its place. A name in backquotes is no word."""
-    return [(place, re.sub(r"`[^`]*`|\]\([^)]*\)", "`", text)) for place, _, text in prose(files)]
-
-
-@pytest.mark.parametrize("words, better, in_pages, in_comments", WORDS)
-def test_words_mean_what_they_mean_elsewhere(words, better, in_pages, in_comments):
-    for files, most in [(PROSE, int(in_pages)), (CODE, int(in_comments))]:
-        assert len(sentences(files)) > 1000
-        found = [place for place, text in sentences(files)
-                 for _ in re.findall(rf"\b(?:{words})\b", text, re.IGNORECASE)]
-        assert len(found) <= most, f"write: {better}"
-
-
-def test_the_pages_are_short():
-    texts = [page.read_text() for page in PROSE if page.name in ["README.md", "CONTRIBUTING.md"]
-             and page.parent == TOP or page.parent == TOP / "docs" and page.name not in ["POLICIES.md", "RECIPES.md"]]
-    texts.append(PRINTED.sub("", (TOP / "docs" / "POLICIES.md").read_text()))
-    head, _, tables = (TOP / "docs" / "RECIPES.md").read_text().partition("\n## For those who come from ZIO\n")
-    texts += [head, PRINTED.sub("", tables)]
-    assert sum(len(text.split()) for text in texts) <= MOST_WORDS
+                yield f"{file.relative_to(TOP)}:{number}", line[0]
 
 
 def test_lines_have_100_columns_except_for_tables_and_code():
-    assert [where for where, line, _ in prose(PROSE + CODE)
+    lines = list(prose(PROSE + CODE))
+    assert len(lines) > 10_000
+    assert [where for where, line in lines
             if len(line) > WIDTH and not re.search(r"^\||`[^`]{60,}`|\]\([^)]{50,}\)", line)] == []
 
 

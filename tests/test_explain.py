@@ -1,5 +1,5 @@
 """zsched-explain: the table of mistakes, plans that are changed at random, and long plans. How a fault is shown is in
-tests/cases/zsched-explain/."""
+tests/cases/zsched-explain.txt."""
 import contextlib
 import json
 import random

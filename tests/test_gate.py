@@ -14,6 +14,7 @@ import pytest
 
 import gate
 import proofs
+from case_files import cases
 from support import TOP, executable, output_of, rows, run_tool
 
 
@@ -63,9 +64,11 @@ def test_a_sabotage_of_the_tests_is_found(name, files, words, tree):
 
 
 def test_floors_hold_for_the_files_that_run(tree):
-    (tree / "tests/test_b.py").write_text("import pytest\n@pytest.mark.full\ndef test_it(): pass\n")
+    (tree / "tests/test_b.py").write_text(
+        "import pytest\n@pytest.mark.full\n@pytest.mark.parametrize('it', ['a/b'])\ndef test_it(it): pass\n")
     (tree / "tests/floors.txt").write_text("survivors 40\ntest_a.py 3\ntest_b.py 1\n")
-    for words in [["-n", "1"], ["--short"], ["tests/test_a.py"], ["tests/test_a.py::test_it"]]:
+    for words in [["-n", "1"], ["--short"], ["tests/test_a.py"], ["tests/test_a.py::test_it"],
+                  ["tests/test_b.py::test_it[a/b]"]]:
         assert passes(tree, *words)
     (tree / "tests/floors.txt").write_text("test_a.py 4\ntest_b.py 1\n")
     assert not passes(tree, "tests/test_a.py")
@@ -76,11 +79,24 @@ def test_check_installs_each_package_that_a_test_names():
     listed = {line.split()[0] for line in (TOP / "tests/packages.txt").read_text().splitlines() if line.strip()}
     named = {it for path in TOP.glob("tests/*.py")
              for it in re.findall(r"\(Debian: ([a-z+-]+[\w+.-]*)\)", path.read_text())}
-    named |= {line.split()[1] for path in TOP.glob("tests/cases/*/*/needs") for line in path.read_text().splitlines()}
+    named |= {line.split()[1] for it in cases().values() for line in it.files.get("needs", b"").decode().splitlines()}
     assert len(named) > 9 and named - listed == set()
 
 
-@pytest.mark.parametrize("name, said, status", rows("said_of_an_edit.jsonl"))
+REJECTED = "rt: must-fail zsched_c/one.edit: refused, as it must be"
+
+
+@pytest.mark.parametrize("name, said, status", [
+    ("it is rejected", f"{REJECTED}\n2 passed, 0 failed\n", 0),
+    ("it doesn't apply",
+     "rt: must-fail zsched_c/one.edit: BAD EDIT: there is no file src/lib.rt\n1 passed, 0 failed\n", 1),
+    ("it isn't tried", "1 passed, 0 failed\n", 1),
+    ("a proof names what it took away",
+     f"{REJECTED} (only because a proof file names what the edit took away, so this says little of the contract: "
+     "change a value and keep the names): ./proofs/a/Answers.antt:1:1: error\n2 passed, 0 failed\n", 1),
+    ("a limit of the prover rejects it",
+     f"{REJECTED} (only by a limit of the prover, which gave no verdict, so this says less of the contract: choose a "
+     "change that it refuses sooner): antt ran out of stack\n2 passed, 0 failed\n", 1)])
 def test_an_edit_that_the_toolchain_passes_over_fails_the_proofs(name, said, status, tree):
     (tree / "crates/zsched_c/must-fail").mkdir(parents=True)
     for file, text in [("crates/zsched_c/must-fail/one.edit", ""), ("crates.txt", "zsched_c staticlib:\n"),

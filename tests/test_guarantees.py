@@ -36,7 +36,7 @@ def test_each_call_says_what_it_does(crate):
 
 @each_crate
 def test_each_wrong_body_breaks_a_promise(crate):
-    edits = {path.stem for path in guarantees.edits_of(crate)}
+    edits = {it.name for it in guarantees.edits_of(crate)}
     behind = [guarantees.edits_behind(crate, it.name) for it in guarantees.promises_of(crate) if it.clauses]
     assert edits or crate == "zs_job_bounds"
     assert sorted(edits.difference(*(names for each in behind for names in each))) == []

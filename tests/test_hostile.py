@@ -1,4 +1,4 @@
-"""Plans that no honest user writes. Standard streams that fail, end early or never end are in tests/cases/zsched/."""
+"""Plans that no honest user writes. Streams that fail, end early or never end are in tests/cases/zsched.txt."""
 import functools
 import os
 import signal

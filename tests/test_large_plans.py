@@ -8,12 +8,20 @@ import pytest
 
 import reference
 from reference import LAST_TICK, M
-from support import difference, rows, run
+from support import difference, run
 
 PATIENCE = 120
 
 # Schedules that continue for long, some of which grow: leaves of each form, and operators over parts that grow.
-LEAVES, OPERATORS = rows("large_schedules.jsonl")
+LEAVES = [
+    "forever", "recurs(600)", "spaced(3)", "fixed(7)", "windowed(7)", "exponential(1, 1)", "exponential(1)",
+    "exponential(3, 4294967296)", "fibonacci(0)", "fibonacci(1)", "identity", "elapsed", "linear(0)", "linear(1)"]
+OPERATORS = [
+    "(forever && identity)", "(recurs(3) || elapsed)", "(recurs(250) andThenEither identity)",
+    "identity.whileInput(< 1000)", "(identity && elapsed).whileOutput(_2 < 2000)", "identity.map(+ 5).map(* 7)",
+    "recurs(900).resetWhen(= 7)", "(recurs(2) andThenEither recurs(3)).map(merge).resetWhen(= 3)",
+    "identity.collectAll.resetWhen(size = 9)", "identity.collectAll.map(size)",
+    "(linear(1) && forever.collectAll.map(size)).resetWhen(_1 > 50).resetWhen(_2 = 9)"]
 
 
 def job(number, schedule, values=(0,), ms=1, mode="repeat", **more):

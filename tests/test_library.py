@@ -18,10 +18,23 @@ FORGED = 200
 VALGRIND = ["valgrind", "--quiet", "--error-exitcode=9", "--leak-check=full", "--show-leak-kinds=all"]
 # Schedules of the greatest depth.
 DEEPEST = rows("deepest.jsonl")
-# A schedule, the numbers of struct zs_run_bounds for 1000 steps, the same for attempts of at most 5 s, and the reasons.
-# A longest run is 1 ms more than these say: each end is before it, to the nanosecond.
-BOUNDS = {it[0]: it[1:3]
-          for it in (line.split("\t") for line in (TOP / "tests" / "bounds.tsv").read_text().splitlines())}
+# Of a schedule the numbers of struct zs_run_bounds for 1000 steps, the same for attempts of at most 5 s, and the
+# reasons. A longest run is 1 ms more than these say: each end is before it, to the nanosecond.
+BOUNDS = {
+    # 100, 200, 400, 800, 1600
+    "(exponential(100) && recurs(5))": ("6 6 1 6 1600 1 3100 0 0", "6 6 1 6 1600 1 3100 1 33101"),
+    # 100, 200, 400, 800, 1600, 3200, and 5000 twice; any error may be below 500
+    "((exponential(100) || spaced(5000)) && recurs(8)).whileInput(>= 500)":
+        ("9 1 1 9 5000 1 16300 0 0", "9 1 1 9 5000 1 16300 1 61301"),
+    # The sixth step has 5 * 401 ms at least, and the fifth 4 * 401, which is less than 2000. A run: 5000 + 1999 + 400 +
+    # 5000.
+    "(spaced(400) && elapsed).whileOutput(_2 < 2000)": ("6 2 1 6 400 1 2000 0 0", "6 2 1 6 400 1 2000 1 12400"),
+    # 250, 500, 750, 1000, 1250
+    "linear(250).whileOutput(< 1500)": ("6 6 1 6 1250 1 3750 0 0", "6 6 1 6 1250 1 3750 1 33751"),
+    # 100, 200, 400, and 5000 four times; attempts of 5 s take at most 55700 ms up to the last step
+    "(((exponential(100) && recurs(3)) andThenEither (spaced(5000) && recurs(4))).map(merge) && "
+    "elapsed.whileOutput(< 60000))": ("8 2 1 8 5000 1 20700 0 0", "8 8 1 8 5000 1 20700 1 60701"),
+    "spaced(1000).whileInput(!= 404)": 2 * ("1000 1 0 0 1000 0 0 0 0",)}
 # The version of a state, and a policy's program, by crates/zs_c/specs/Program.antt and Code.antt.
 POLICY = b"((exponential(100) || spaced(5000)) && recurs(8)).whileInput(>= 500)"
 VERSION = 0x7a73746174650001

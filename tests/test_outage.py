@@ -1,5 +1,5 @@
 """zsched-outage: its runs against the decision of one event after another, budgets, draws, the certificate, files and
-pictures. What the command prints, and its faults, are the cases in tests/cases/zsched-outage."""
+pictures. What the command prints, and its faults, are the cases in tests/cases/zsched-outage.txt."""
 import io
 import json
 import math
@@ -17,6 +17,7 @@ from hypothesis import strategies as st
 
 import reference
 from browser import framed
+from case_files import cases
 from reports import jobs_of
 from support import TOP, draw, examples, job, plan, run, run_here
 from zsched_tools import drawn, program
@@ -28,9 +29,9 @@ from zsched_tools.place import Cause
 from zsched_tools.progress import Now
 from zsched_tools.reports import joined
 
-CASES = TOP / "tests" / "cases" / "zsched-outage"
-SMALL = json.loads((CASES / "three_clients_meet_an_outage" / "outage.json").read_text())
-DRAWN = json.loads((CASES / "the_same_seed_gives_the_same_bytes" / "drawn.json").read_text().replace("SEED", "0"))
+THREE = cases()["zsched-outage/three_clients_meet_an_outage"]
+SMALL = json.loads(THREE.text("outage.json"))
+DRAWN = json.loads(cases()["zsched-outage/the_same_seed_gives_the_same_bytes"].text("drawn.json").replace("SEED", "0"))
 REPORT = (TOP / "examples" / "three_clients_in_an_outage.json.stdout").read_text()
 
 
@@ -55,7 +56,7 @@ def test_the_recipe_shows_the_case():
     page = (TOP / "docs" / "RECIPES.md").read_text().split("### Many clients meet an outage\n")[1]
     assert json.loads(re.search(r"```json\n(.*?)```", page, re.S)[1]) == SMALL
     table = re.search(r"```console\n\$ tools/zsched-outage outage.json \| head -n \d+\n(.*?)```", page, re.S)[1]
-    assert (CASES / "three_clients_meet_an_outage" / "stdout").read_text().startswith(table)
+    assert THREE.text("stdout").startswith(table)
 
 
 def test_help_has_an_example():
@@ -412,7 +413,7 @@ def test_a_plan_of_too_many_jobs_is_written_as_lines(zsched, population, tmp_pat
     assert (lines.splitlines()[0], lines.count(b"\n")) == (b'{"horizon":5000}', 4)
     assert run(population, lines) == (0, REPORT.encode(), b"")
     assert (tmp_path / "steady.report").read_text() == REPORT
-    curve_of_case = (CASES / "three_clients_meet_an_outage" / "stdout").read_text().partition("steady.report\n")[2]
+    curve_of_case = THREE.text("stdout").partition("steady.report\n")[2]
     assert (tmp_path / "steady.csv").read_text() == curve_of_case
 
 

@@ -1,5 +1,5 @@
 """docs/play.html: its evaluator against the reference, its bounds against tests/bounds.py, its pictures; the file; and
-the page in a real browser. What else its functions return are the cases in tests/cases/play-page."""
+the page in a real browser. What else its functions return are the cases in tests/cases/play-page.txt."""
 import base64
 import contextlib
 import json
@@ -17,9 +17,10 @@ import faults
 import generator
 import reference
 from browser import framed, inside, opened
+from case_files import unpacked
 from mistakes import MISTAKES, split
 from reports import jobs_of
-from support import TOP, examples, output_of, plan, plans_with_reports, rows, run_here
+from support import TOP, examples, output_of, plan, plans_with_reports, run_here
 from zsched_tools import drawn, hints, schedule_rules
 from zsched_tools.outage import certificate
 from zsched_tools.outage import command as outage
@@ -145,7 +146,7 @@ def test_a_policy_and_its_fault_are_as_the_tools_say(page, zsched):
 
 def test_json_configs_are_read_as_zsched_policy_reads_them(page):
     """Those of three formats. A config that the tool rejects has no policies in the page."""
-    paths = [it for it in TOP.glob("tests/cases/zsched-policy/*/*.json") if it.parent.name != "json_that_ends_early"]
+    paths = [it for it in unpacked("zsched-policy").glob("*/*.json") if it.parent.name != "json_that_ends_early"]
     for path in paths:
         try:
             lines = [configs.members(it, it.read()) for it in configs.policies_of(str(path))]
@@ -266,7 +267,9 @@ def test_the_same_seed_gives_the_same_plan(page):
 @pytest.mark.parametrize("width", [330, 1200])
 @pytest.mark.parametrize("is_log", [False, True])
 def test_nothing_is_outside_of_a_picture(page, width, is_log):
-    for path in sorted(TOP.glob("examples/*.stdout")):
+    reports = sorted(TOP.glob("examples/*.stdout"))
+    assert len(reports) > 30
+    for path in reports:
         svg = page("page.picture", path.read_text(), {"width": width, "isLog": is_log})
         root = xml.etree.ElementTree.fromstring(svg)
         height = float(root.get("height"))
@@ -446,7 +449,10 @@ def test_nothing_is_out_of_sight_from_360_to_1600_pixels(tmp_path):
 
 
 @pytest.mark.full
-@pytest.mark.parametrize("schedule, until, labels", rows("axes.jsonl"))
+@pytest.mark.parametrize("schedule, until, labels", [
+    ("(exponential(100) && recurs(12))", "20min", ["0 ms", "1 min", "2 min", "3 min"]),
+    ("(exponential(1000, 10) && recurs(7))", "300d", ["0 ms", "5 d", "10 d"]),
+    ("recurs(3)", "1s", ["0 ms", "1 ms"])])
 def test_the_axis_of_waits_has_round_labels(schedule, until, labels):
     curves = inside(shown(a=schedule, until=until, script="5 err 7"), "curves")
     assert re.findall(r'text-anchor="end"[^>]*>([^<]*)</text>', curves) == labels

@@ -1,5 +1,5 @@
 """The pictures and pages of zsched-report: where things are, and that no figure is missing. Their words are in
-tests/cases/zsched-report/."""
+tests/cases/zsched-report.txt."""
 import math
 import re
 from xml.etree import ElementTree

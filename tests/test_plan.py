@@ -1,4 +1,4 @@
-"""zsched-plan: files of other forms as plans. What it prints, and its faults, are in tests/cases/zsched-plan."""
+"""zsched-plan: files of other forms as plans. What it prints, and its faults, are in tests/cases/zsched-plan.txt."""
 import json
 from unittest import mock
 

@@ -1,5 +1,5 @@
 """zsched-play: what the server takes and rejects, its responses, runs that are stopped, and its page in a real browser.
-What the page does with typed text is in test_page.py; the command line is in tests/cases/zsched-play."""
+What the page does with typed text is in test_page.py; the command line is in tests/cases/zsched-play.txt."""
 import concurrent.futures
 import contextlib
 import http.client
@@ -107,8 +107,12 @@ def test_bounds_of_an_unproved_program_say_so(zsched, marked):
     assert command.answer(command.Programs(zsched, marked[0]), question(), wanted([]))["proved"] is not bool(marked[1])
 
 
-# The status of the program of bounds, or null for none, the policies, and what is said of them.
-@pytest.mark.parametrize("name, status, schedules, said", rows("left_out_bounds.jsonl"))
+# The status of the program of bounds, or None without one, the policies, and what is said of them.
+@pytest.mark.parametrize("name, status, schedules, said", [
+    ("good", 0, ["recurs(3)"], ["4 attempts, always; no waits"]),
+    ("failed", 4, ["recurs(3)"], []),
+    ("without", None, ["recurs(3)"], []),
+    ("of three policies", 0, ["recurs(0)", "recurs(1)", "recurs(2)"], 2 * ["4 attempts, always; no waits"])])
 def test_bounds_are_left_out_if_there_are_none(zsched, tmp_path, name, status, schedules, said):
     line = ('{"policy":"","attempt":{"least":1,"most":null},"attempts":{"least":4,"most":4},"never_gives_up":false,'
             '"longest_wait":0,"every":0,"total_wait":0,"longest_run":null,"within":null,"steps_seen":4}')

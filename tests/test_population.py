@@ -1,6 +1,6 @@
 """zsched-population: the report of a population is that of its jobs as one plan, and an error has its line's number.
 The reports of ranges join to it, and a change of a byte is found. Lines of any form, blocks, broken streams and what is
-no report of a range are the cases in tests/cases/zsched-population."""
+no report of a range are the cases in tests/cases/zsched-population.txt."""
 import hashlib
 import json
 import random

@@ -1,5 +1,5 @@
-"""The section of a proved program: `strip` keeps it, and no other file has it. tests/cases/zsched-try/ has what is said
-of unproved programs, tests/cases/run/ what ./run takes."""
+"""The section of a proved program: `strip` keeps it, and no other file has it. tests/cases/zsched-try.txt has what is
+said of unproved programs, tests/cases/run.txt what ./run takes."""
 import pathlib
 import random
 import shutil

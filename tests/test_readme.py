@@ -12,11 +12,11 @@ from support import TOP, output_of
 PAGES = [(TOP / "README.md").read_text(), "### ".join((TOP / "docs/RECIPES.md").read_text().split("### ", 2)[:2])]
 # How a command begins that isn't run here, and why.
 LEFT_OUT = {
-    "tar -xzf ": "no release is published; tests/cases/release makes and runs one",
+    "tar -xzf ": "no release is published; tests/cases/release.txt makes and runs one",
     "PATH=": "it names the folder of a release", "zsched-try ": "it is that of a release",
     "apt install ": "the package is one of a release",
-    "./run --proved": "it takes half an hour; tests/cases/run has it in a small tree",
-    "./check": "it runs this test; tests/cases/check has what it installs"}
+    "./run --proved": "it takes half an hour; tests/cases/run.txt has it in a small tree",
+    "./check": "it runs this test; tests/cases/check.txt has what it installs"}
 
 
 def commands(page):

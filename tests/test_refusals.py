@@ -9,6 +9,8 @@ import time
 
 import pytest
 
+import refusals
+from sections import sections_of
 from support import TOP, executable, rows
 
 # Two functions; the prover below reads what is wrong with a body off its words.
@@ -69,7 +71,7 @@ def tree(tmp_path):
         (tmp_path / name).parent.mkdir(exist_ok=True)
         shutil.copy(TOP / name, tmp_path / name)
     shutil.copytree(TOP / "build", tmp_path / "build")
-    for name in ["zs_low/src", "zs_a/src", "zs_a/must-fail", "zs_a/wrong"]:
+    for name in ["zs_low/src", "zs_a/src", "zs_a/must-fail"]:
         (tmp_path / "crates" / name).mkdir(parents=True)
     (tmp_path / "kit/bin").mkdir(parents=True)
     for name, text in [("crates.txt", "zs_low:\nzs_a: zs_low\n"), ("crates/zs_a/src/lib.rt", SOURCE),
@@ -99,17 +101,23 @@ def tried(tree, *words, given=""):
     return output + errors, len((tree / "checks").read_text())
 
 
-def add(tree, name, lines, folder="wrong"):
+def add(tree, name, lines, kind="wrong"):
     """Adds an edit of `x + 1` in `next`, unless its lines say another."""
     head = [] if any(line.startswith("file: ") for line in lines) else ["file: src/lib.rt", "old: x + 1"]
     at = next((place for place, line in enumerate(lines) if line.startswith("new:")), len(lines))
-    (tree / "crates/zs_a" / folder / f"{name}.edit").write_text("\n".join([*lines[:at], *head, *lines[at:], ""]))
+    lines = [*lines[:at], *head, *lines[at:], ""]
+    crate = tree / "crates/zs_a"
+    if kind == "must-fail":
+        (crate / kind / f"{name}.edit").write_text("\n".join(lines))
+    else:
+        with open(crate / f"{kind}.txt", "a") as file:
+            file.write("\n".join([f"== {name}", *lines]))
 
 
-@pytest.mark.parametrize("name, folder, edits, passed, said", rows("wrong_bodies.jsonl"))
-def test_an_edit_passes_only_if_its_own_clause_failed(name, folder, edits, passed, said, tree):
+@pytest.mark.parametrize("name, kind, edits, passed, said", rows("wrong_bodies.jsonl"))
+def test_an_edit_passes_only_if_its_own_clause_failed(name, kind, edits, passed, said, tree):
     for number, lines in enumerate(edits):
-        add(tree, f"edit{number}", lines, folder)
+        add(tree, f"edit{number}", lines, kind)
     shown, _ = tried(tree)
     assert shown.splitlines()[-1] == f"{passed} passed, {len(edits) - passed} failed", shown
     assert said in shown
@@ -137,7 +145,7 @@ def test_a_control_stays_in_its_place_beside_later_ones(tree):
     assert ["x - 1 - 0" in it for it in texts[:4]] == [True, True, False, False]
 
 
-@pytest.mark.parametrize("change", ["crates/zs_a/src/lib.rt", "crates/zs_low/src/lib.rt", "crates/zs_a/wrong/one.edit",
+@pytest.mark.parametrize("change", ["crates/zs_a/src/lib.rt", "crates/zs_low/src/lib.rt", "crates/zs_a/wrong.txt",
                                     "kit/KIT-ID", "tests/refusals.py"])
 def test_a_bundle_that_passed_is_tried_again_if_something_changed(change, tree):
     add(tree, "one", NEXT)
@@ -145,7 +153,8 @@ def test_a_bundle_that_passed_is_tried_again_if_something_changed(change, tree):
     assert [tried(tree)[1] for _ in range(2)] == [1, 0]
     assert tried(tree, "--anew")[1] == 1
     path = tree / change
-    path.write_text(f"{path.read_text()}\n" if "edit" not in change else f"# another belief\n{path.read_text()}")
+    text = path.read_text()
+    path.write_text(text.replace("== one\n", "== one\n# another belief\n") if "== one\n" in text else f"{text}\n")
     assert [tried(tree)[1] for _ in range(2)] == [1, 0]
 
 
@@ -216,16 +225,30 @@ def test_a_seed_of_another_checkout_or_one_that_goes_is_not_taken(is_gone, tree)
 
 def test_a_check_of_an_edit_alone_states_what_refuses_it(tree):
     add(tree, "one", ["new: hand"])
-    path = tree / "crates/zs_a/wrong/one.edit"
-    assert "# refused: zs_a::next value\n" in tried(tree, "--stated", str(path))[0]
+    assert "# refused: zs_a::next value\n" in tried(tree, "--stated", "zs_a/one")[0]
+
+
+def test_an_edit_alone_is_tried_by_its_name(tree):
+    add(tree, "one", NEXT)
+    add(tree, "two", ["# refused: zs_a::last value", "file: src/lib.rt", "old: x - 1", "new: x - 1 - 0"])
+    assert tried(tree, "zs_a/one")[0].endswith("\n1 passed, 0 failed\n")
+    assert tried(tree, "zs_a/two")[0].endswith("\n0 passed, 1 failed\n")
+    assert "there is no crate and no edit zs_a/three" in tried(tree, "zs_a/three")[0]
 
 
 def test_each_edit_of_the_repository_has_its_line():
-    wanted = {path.relative_to(TOP) for path in TOP.glob("crates/*/*/*.edit") if path.parent.name != "survivors"}
-    lacking = [str(path) for path in wanted if not any(
-        line.startswith("# refused: ") for line in (TOP / path).read_text(encoding="utf-8").splitlines())]
-    assert len(wanted) > 270 and sorted(lacking) == []
-    assert {path.parent.name for path in wanted} == {"must-fail", "wrong"}
+    edits = [it for name in refusals.CRATES for it in refusals.guarantees().edits_of(name)]
+    lacking = [it.label for it in edits if "\n# refused: " not in f"\n{it.text}"]
+    assert len(edits) > 270 and lacking == []
+    assert {it.is_asked for it in edits} == {True, False} and len({it.label for it in edits}) == len(edits)
+
+
+def test_wrong_bodies_and_survivors_are_in_the_order_of_their_names():
+    lists = [[it.name for it in sections_of(path)] for kind in ["wrong", "survivors"]
+             for path in TOP.glob(f"crates/*/{kind}.txt")]
+    assert len(lists) > 15 and [it for it in lists if it != sorted(it)] == []
+    # Nothing reads an edit that is a file elsewhere.
+    assert {path.parent.name for path in TOP.glob("crates/*/*/*.edit")} == {"must-fail"}
 
 
 def test_at_most_a_third_of_the_requests_wrong_bodies_has_no_control():

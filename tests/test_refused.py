@@ -77,8 +77,8 @@ def test_a_call_reports_each_failed_allocation_or_does_without_it(name, refusals
 @pytest.mark.parametrize("jobs, workers, grain", [("one", 1, 1), (7, 1, 1), (7, 2, 3)])
 def test_each_allocation_of_a_run_fails(jobs, workers, grain, kind, zsched, refuser):
     text, report = plan_of(jobs, workers, grain)
-    for number, ended in refuser.each(zsched, text, kind):
-        assert ended in [(0, report, b""), NO_MEMORY, NO_THREAD], number
+    ends = [ended for _, ended in refuser.each(zsched, text, kind)]
+    assert NO_MEMORY in ends and [it for it in ends if it not in [(0, report, b""), NO_MEMORY, NO_THREAD]] == []
 
 
 @pytest.mark.parametrize("jobs, workers, grain", [(10_000, 1, 1), (10_000, 2, 3), ("heavy", 1, 1), ("heavy", 4, 3)])
@@ -99,7 +99,11 @@ def test_no_thread_can_be_started_from_one_on(jobs, workers, grain, number, is_e
     assert difference(refuser.run(zsched, text, threads=number).ended, wanted) is None
 
 
-@pytest.mark.parametrize("name, failures, said", support.rows("two_causes.jsonl"))
+@pytest.mark.parametrize("name, failures, said", [
+    ("the second worker has no memory", {"within": 1}, "out of memory"),
+    ("the third worker has no memory", {"within": 2}, "out of memory"),
+    ("the third worker can't be started", {"threads": 2}, "no thread"),
+    ("the second worker has no memory and the third can't be started", {"within": 1, "threads": 2}, "out of memory")])
 def test_of_two_causes_the_first_workers_is_reported(name, failures, said, zsched, refuser):
     assert refuser.run(zsched, plan_of("heavy", 3, 1)[0], **failures).ended == (4, b"", f"zsched: {said}\n".encode())
 

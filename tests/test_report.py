@@ -1,4 +1,4 @@
-"""zsched-report: what holds for all reports and all pieces of them. What it prints is in tests/cases/zsched-report/."""
+"""zsched-report: what holds for all reports and their pieces. What it prints is in tests/cases/zsched-report.txt."""
 import collections
 import io
 import json

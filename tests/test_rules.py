@@ -216,6 +216,8 @@ def test_python_is_as_pycodestyle_wants_it(tmp_path):
 
 
 def test_a_table_of_rows_names_the_test_that_reads_it():
-    for path in (TOP / "tests").glob("*.jsonl"):
+    tables = sorted((TOP / "tests").glob("*.jsonl"))
+    assert len(tables) > 20
+    for path in tables:
         name, _, columns = json.loads(path.read_text(encoding="utf-8").partition("\n")[0]).partition(": ")
         assert columns and f'rows("{path.name}")' in (TOP / "tests" / name).read_text(), path.name

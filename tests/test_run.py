@@ -1,4 +1,4 @@
-"""./run at a terminal and over a socket. All else that it does is in tests/cases/run/."""
+"""./run at a terminal and over a socket. All else that it does is in tests/cases/run.txt."""
 import os
 import pty
 import socket

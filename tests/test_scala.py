@@ -7,6 +7,7 @@ import re
 import pytest
 
 import zio_model as zio
+from case_files import unpacked
 from generator import chunks, made_term, seldom
 from languages import need
 from reports import jobs_of
@@ -468,11 +469,11 @@ PIECES = ("( ) { } [ ] \" \"\"\" ' /* */ // . => = _ <- : , ; ! - $ ` @ 0x 1e9 .
           "new given object class return yield Schedule. .millis .jittered .map(_._1) .resetWhen(_>3&&_<4) [0]").split()
 
 
-@pytest.mark.parametrize("path", ["examples/Retries.scala", *(f"tests/cases/zsched-policy/{name}" for name in [
+@pytest.mark.parametrize("path", [TOP / "examples/Retries.scala", *(unpacked("zsched-policy") / name for name in [
     "scala_that_is_broken/b.scala", "scala_settings_that_are_left_out/a.scala", "cats_retry_policies/policies.scala",
-    "effect_in_typescript/policies.ts"])])
+    "effect_in_typescript/policies.ts"])], ids=lambda it: it.name)
 def test_a_damaged_source_is_an_error_at_a_place_or_has_policies(path):
-    source, chance = (TOP / path).read_text(), random.Random(path)
+    source, chance, read = path.read_text(), random.Random(path.name), 0
     for _ in range(200):
         text = source
         for _ in range(chance.choice([1, 1, 2, 5])):
@@ -480,10 +481,12 @@ def test_a_damaged_source_is_an_error_at_a_place_or_has_policies(path):
             piece = chance.choice([*PIECES, "\n", "\n\n", text[at:min(end, at + 60)]])
             text = text[:at] + piece + text[chance.choice([at, at, at + 1, min(end, at + 20)]):]
         try:
-            for it in scala_policies.find(text, "typescript" if path.endswith("ts") else "scala"):
+            for it in scala_policies.find(text, "typescript" if path.suffix == ".ts" else "scala"):
                 try:
                     assert len(it.read().waits) <= 65536
+                    read += 1
                 except Wrong as wrong:
                     assert re.fullmatch(r"\d+:\d+", wrong.args[0])
         except Wrong as wrong:
             assert re.fullmatch(r"\d+:\d+|1", str(wrong.args[0]))
+    assert read > 10

@@ -1,4 +1,4 @@
-"""What all commands of tools/ have in common, beside tests/cases/tools/: the program that they run, the Python that
+"""What all commands of tools/ have in common, beside tests/cases/tools.txt: the program that they run, the Python that
 they need, and the decisions of schedules."""
 import ast
 import ctypes

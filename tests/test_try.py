@@ -1,4 +1,4 @@
-"""zsched-try, and the bounds in the tables of RECIPES and POLICIES. What it prints is in tests/cases/zsched-try/."""
+"""zsched-try, and the bounds in the tables of RECIPES and POLICIES. What it prints is in tests/cases/zsched-try.txt."""
 import json
 import random
 import re
@@ -10,6 +10,7 @@ from hypothesis import strategies as st
 
 import bounds as interval_run
 import reference
+from case_files import cases
 from reports import jobs_of
 from support import TOP, examples, run, run_here
 from test_driven import schedule_of
@@ -218,7 +219,7 @@ def test_each_recipe_with_a_schedule_has_its_bounds():
 
 
 def test_bounds_of_the_tables_are_those_of_the_program(bounds):
-    policies = (TOP / "tests/cases/zsched-try/bounds_worked_out_by_hand/policies").read_text().splitlines()
+    policies = cases()["zsched-try/bounds_worked_out_by_hand"].text("policies").splitlines()
     assert set(policies) <= {schedule for schedule, _ in TABLES}
     found = bounding.run(bounds, [schedule for schedule, _ in TABLES])
     assert [it.cells() for it in found] == [row for _, row in TABLES]

@@ -1,4 +1,0 @@
-import backoff
-
-def f(:
-    pass

@@ -1,2 +1,0 @@
-import com.shop.calendar.Schedule
-val opening = Schedule.recurs(5)

@@ -1,2 +1,0 @@
-import zio._
-val p = Schedule.recurs(3
