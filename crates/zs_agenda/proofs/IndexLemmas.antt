@@ -2,6 +2,7 @@
 use Rattle.std.proofs.Common.{◌≡◌, ◌≢◌, ◌<◌, ◌≤◌, ◌+◌, ◌==◌, ◌↔◌, ◌||◌, ℕ, suc, Bool, true, false}
 use Rattle.std.proofs.Common.{cond, List, [], ◌∷◌, length, Option, Some, None, IsSome, Contains}
 use Rattle.std.proofs.Common.{refl, sym, ap, subst, ◌∙◌, arith, nat_lt, nat_cmp, insert, unwrap_or}
+use Rattle.std.proofs.Common.{◌-◌, slice_get}
 use Rattle.std.proofs.lemmas.Bool.Decides.{nat_tests, Decides-eqb}
 use Rattle.std.proofs.lemmas.List.Elements.{All-from_recursion, All-contains, Contains-append_right}
 use Rattle.std.proofs.lemmas.Map.Keys.{IsStrictlyIncreasing-from_sorted, le_from_not_gt}
@@ -16,6 +17,7 @@ use Rattle.std.specs.Global.{Vec}
 use Rattle.std.specs.declared.cmp.Ordering.TheVariants.{Less}
 use Rattle.zs_agenda.specs.Timers.{Moments, IsAfter, IsLeastMoment, Takes}
 use Rattle.zs_agenda.specs.Indexes.{ByJob, ByMoment, Puts, Forgets, HasSameMoments, IsAgenda}
+use Rattle.zs_agenda.specs.Indexes.{AreAll}
 use Rattle.zs_agenda.specs.Indexes.{items_of, jobs_at, is_among, IsRising, placed, moments_of}
 use Rattle.zs_agenda.specs.Indexes.{Agrees}
 
@@ -38,6 +40,31 @@ prefix_len-le p (x ∷ xs) =
       | true ↦ omega (arith, prefix_len-le p xs)
       | false ↦ omega arith
     ]
+
+-- if the last of a rising list is less than a job, all are
+pub all-less : (job last : ℕ) (js : List ℕ) → IsRising js →
+    slice_get js (length js - 1) ≡ Some last → last < job →
+    (length js ≡ prefix_len (λ j. nat_lt j job) js) × AllByRecursion (λ j. j < job) js
+all-less job last [] h e l = (refl, tt)
+all-less job last (j ∷ []) h e l =
+    let same : j ≡ last = cc in
+    let below : j < job = omega (arith, same, l) in
+    let is : nat_lt j job ≡ true = grind (arith, nat_tests) in
+    (rw is refl, (below, tt))
+all-less job last (j ∷ k ∷ js) h e l =
+    let at : suc (length js) ≡ length (j ∷ k ∷ js) - 1 = omega arith in
+    let one : slice_get (k ∷ js) (length js) ≡ Some last =
+    ap (λ (n : ℕ). slice_get (j ∷ k ∷ js) n) at ∙ e in
+    let back : length (k ∷ js) - 1 ≡ length js = omega arith in
+    let rest : (length (k ∷ js) ≡ prefix_len (λ i. nat_lt i job) (k ∷ js))
+    × AllByRecursion (λ i. i < job) (k ∷ js) =
+    all-less job last (k ∷ js) h.1 (ap (λ (n : ℕ). slice_get (k ∷ js) n) back ∙ one) l in
+    let first : j < k = h.0.0 in
+    let next : k < job = rest.1.0 in
+    let below : j < job = omega (arith, first, next) in
+    let is : nat_lt j job ≡ true = grind (arith, nat_tests) in
+    let front : length (j ∷ k ∷ js) ≡ 1 + length (k ∷ js) = omega arith in
+    (rw is (front ∙ ap (λ (n : ℕ). 1 + n) rest.0), (below, rest.1))
 
 -- a job that is inserted after the lesser jobs is at its place
 pub insert-is-placed : (job : ℕ) (js : List ℕ) →
@@ -531,6 +558,35 @@ popped m n t u s =
     outer : (b : Bool) (o : Option (Vec ℕ)) → items_of (cond b None o) ≡ cond b None (items_of o)
     outer true o = refl
     outer false o = refl
+
+-- a take that leaves no moment has taken all jobs
+pub taken-all : (m m' : ByMoment) (n : ByJob) (taken : Option ℕ) (t : ℕ) (v : Vec ℕ) (js : List ℕ) →
+    IsAgenda m n taken → tree.get nat_cmp m t ≡ Some v →
+    ((s : ℕ) → tree.get nat_cmp m' s ≡ cond (tree.is_at (nat_cmp t) s) None
+    (tree.get nat_cmp m s)) → js ≡ v.items → AreAll m' n js
+taken-all m m' n taken t v js h here u same none q absent = go (tree.get nat_cmp n q) refl
+  where
+    left : (s : ℕ) → jobs_at m' s ≡ None
+    left s = ap items_of (no_entry m'.entries (λ l. omega (arith, none)) s)
+
+    go : (o : Option ℕ) → tree.get nat_cmp n q ≡ o → o ≡ None
+    go None e = refl
+    go (Some s) e =
+        let among : is_among q (jobs_at m s) ≡ true = (h.agree q s).0 e in
+        elim (t == s) as (λ b. (t == s) ≡ b → Some s ≡ None) [
+          | true ↦ λ is.
+              let at : t ≡ s = (Decides-eqb t s).0 is in
+              let list : jobs_at m s ≡ Some v.items = ap (jobs_at m) (sym at) ∙ ap items_of here in
+              let has_it : has q v.items ≡ true = sym (ap (is_among q) list) ∙ among in
+              let clash : true ≡ false = sym has_it ∙ ap (has q) (sym same) ∙ absent in
+              cc
+          | false ↦ λ is.
+              let kept : jobs_at m' s ≡ jobs_at m s =
+              popped m m' t u s ∙ ap (λ (b : Bool). cond b None (jobs_at m s)) is in
+              let gone : jobs_at m s ≡ None = sym kept ∙ left s in
+              let clash : false ≡ true = sym (ap (is_among q) gone) ∙ among in
+              cc
+        ] refl
 
 module _ (m m' : ByMoment) (n n' : ByJob) (taken : Option ℕ) (t : ℕ) (v : Vec ℕ) (js : List ℕ)
     (h : IsAgenda m n taken) (here : tree.get nat_cmp m t ≡ Some v)

@@ -9,7 +9,7 @@ use Rattle.std.specs.Global.{Vec}
 use Rattle.std.specs.Vec.{vec_capacity}
 use Rattle.std.specs.List.{AllByRecursion, list_any}
 use Rattle.std.specs.Ordering.{nat_cmp}
-use Rattle.std.specs.BTreeMap.{BTreeMap, get}
+use Rattle.std.specs.BTreeMap.{BTreeMap, get, btree_map_len}
 use Rattle.std.specs.FinMap.{from_entries}
 use Rattle.zs_agenda.specs.Timers.{Moments, IsAfter}
 
@@ -74,6 +74,12 @@ abbrev pub Forgets : ByJob → ByJob → List ℕ → Type 0
 Forgets old new jobs =
     (job : ℕ)
     → get nat_cmp new job ≡ (if list_any (λ j. j == job) jobs then None else get nat_cmp old job)
+
+-- if no moment is left, no other job has one
+abbrev pub AreAll : ByMoment → ByJob → List ℕ → Type 0
+AreAll left old jobs =
+    btree_map_len left ≡ 0 → (job : ℕ) → list_any (λ j. j == job) jobs ≡ false
+    → get nat_cmp old job ≡ None
 
 -- the moment of each job, as callers see it
 abbrev pub moments_of : ByJob → Moments

@@ -5,7 +5,7 @@ ghost use Rattle.std.specs.FinMap as map;
 ghost use Rattle.zs_agenda.specs.declared.fault.AgendaFault.TheVariants.{Memory};
 
 use crate::fault::AgendaFault;
-use crate::index::{add, forget, put};
+use crate::index::{add, forget, forget_first, put};
 use std::alloc::Global;
 use std::collections::BTreeMap;
 use std::marker::Model;
@@ -115,7 +115,7 @@ impl Agenda {
         let Some((moment, jobs)) = self.by_moment.pop_first() else {
             return Ok(None);
         };
-        forget(&mut self.by_job, &jobs);
+        forget_first(&self.by_moment, &mut self.by_job, &jobs);
         self.last_taken = Some(moment);
         Ok(Some((moment, jobs)))
     }

@@ -5,7 +5,7 @@ ghost use Rattle.std.specs.List.{prefix_len};
 ghost use Rattle.std.specs.Ordering.{nat_cmp};
 ghost use Rattle.std.specs.Vec.{vec_capacity};
 ghost use Rattle.std.specs.BTreeMap.{get};
-ghost use Rattle.zs_agenda.specs.Indexes.{Adds, Forgets, HasNoRoom, HasSameJobs, HasSameMoments, IsRising, Puts, jobs_at, placed};
+ghost use Rattle.zs_agenda.specs.Indexes.{Adds, AreAll, Forgets, HasNoRoom, HasSameJobs, HasSameMoments, IsRising, Puts, jobs_at, placed};
 
 use std::alloc::{AllocError, Global};
 use std::collections::BTreeMap;
@@ -16,6 +16,12 @@ fn place_of(jobs: &[u64], job: u64) -> usize
     requires rising { IsRising jobs.now }
     ensures value { result ≡ prefix_len (λ other. nat_lt other job) jobs.now }
 {
+    // Most jobs come in rising number.
+    if let Some(last) = jobs.last()
+        && *last < job
+    {
+        return jobs.len();
+    }
     // A binary search.
     jobs.partition_point(|other| *other < job)
 }
@@ -69,5 +75,21 @@ pub(crate) fn forget(by_job: &mut BTreeMap<u64, u64>, jobs: &[u64])
 {
     for job in jobs {
         by_job.remove(job);
+    }
+}
+
+// Removes the moments of the jobs of a moment that was taken out: all, if no other moment is left.
+pub(crate) fn forget_first(
+    by_moment: &BTreeMap<u64, Vec<u64>>,
+    by_job: &mut BTreeMap<u64, u64>,
+    jobs: &[u64],
+)
+    requires all { AreAll by_moment.now by_job.old jobs.now }
+    ensures forgets { Forgets by_job.old by_job.new jobs.now }
+{
+    if by_moment.is_empty() {
+        by_job.clear();
+    } else {
+        forget(by_job, jobs);
     }
 }
