@@ -140,10 +140,14 @@ def cost(work, times=1):
 
 
 def ratio(work, number, times=3):
-    """How much the cost grows from half of a number to the number."""
-    for _ in range(5):
-        found = cost(lambda: work(number), times) / max(1, cost(lambda: work(number // 2), times))
-        if found <= MOST_RATIO:
+    """How much the cost grows from half of a number to the number. Each is measured beside the other, so that what else
+    the machine does slows both."""
+    whole, half = [], []
+    for tried in range(5 * times):
+        whole.append(cost(lambda: work(number)))
+        half.append(cost(lambda: work(number // 2)))
+        found = min(whole) / max(1, min(half))
+        if tried + 1 >= times and found <= MOST_RATIO:
             break
     return found
 

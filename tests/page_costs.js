@@ -15,10 +15,15 @@ const grows = (pattern, [before, unit, after]) => {
   const work = number => (before + unit.repeat(number) + after).replace(pattern, "");
   let number = 32;
   while (number < Math.min(units, 65536 / unit.length) && cost(() => work(number)) < slow) number *= 2;
-  if (cost(() => work(number)) < slow) return null;
-  let found = Infinity;
-  for (let time = 0; time < 3 && found > most; time++)
-    found = cost(() => work(number), 7) / Math.max(1000, cost(() => work(number / 2), 7));
+  // A single time may be too long by what else the process did.
+  if (cost(() => work(number), 7) < slow) return null;
+  // Each is measured beside the other, so that what else the machine does slows both.
+  let whole = Infinity, half = Infinity, found = Infinity;
+  for (let time = 0; time < 35 && (time < 7 || found > most); time++) {
+    whole = Math.min(whole, cost(() => work(number)));
+    half = Math.min(half, cost(() => work(number / 2)));
+    found = whole / Math.max(slow / 8, half);
+  }
   return found > most ? [number, found] : null;
 };
 const found = [];
