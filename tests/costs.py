@@ -6,6 +6,7 @@ import gc
 import importlib
 import itertools
 import re
+import statistics
 import time
 
 from support import TOP
@@ -140,13 +141,13 @@ def cost(work, times=1):
 
 
 def ratio(work, number, times=3):
-    """How much the cost grows from half of a number to the number. Each is measured beside the other, so that what else
-    the machine does slows both."""
+    """How much the cost grows from half of a number to the number: by the least times, or by the median of pairs, the
+    less of both. What else the machine does slows the one and the other of a pair, and seldom makes both too great."""
     whole, half = [], []
     for tried in range(5 * times):
         whole.append(cost(lambda: work(number)))
-        half.append(cost(lambda: work(number // 2)))
-        found = min(whole) / max(1, min(half))
+        half.append(max(1, cost(lambda: work(number // 2))))
+        found = min(min(whole) / min(half), statistics.median(one / other for one, other in zip(whole, half)))
         if tried + 1 >= times and found <= MOST_RATIO:
             break
     return found
@@ -169,5 +170,6 @@ def grows(compiled, method, context):
     # A single time may be too long by what else the process did.
     if any(cost(lambda: work(number)) < LONG for _ in range(3)):
         return None
-    found = ratio(work, number)
+    # A cost that grows too fast does so from twice the number, too.
+    found = min(ratio(work, it) for it in (number, 2 * number))
     return (number, round(found, 1)) if found > MOST_RATIO else None
