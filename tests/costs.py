@@ -11,7 +11,7 @@ import time
 
 from support import TOP
 from zsched_tools import json_reading
-from zsched_tools.policy import reading
+from zsched_tools.policy import reading, walking
 from zsched_tools.policy.reading import LONGEST
 
 TOOLS = TOP / "tools" / "zsched_tools"
@@ -22,7 +22,7 @@ METHODS = ["search", "match", "fullmatch", "finditer", "sub", "split", "findall"
 # The values of names that patterns of functions have.
 LOCALS = {"name": "drawing", "said": "a", "ms": "[0-9]+", "pattern": "a", "mark": "a", "allowed": "._",
           "timed": '"ms" *: *[0-9]+', "ended": '"ok" *: *[0-9]+', "text": r'(?:[^\W\d]\w*)?(?:"""|")',
-          "form": r'\$\{|\\.|\n|"', "it": "Schedule", "letters": "sab"}
+          "form": r'\$\{|\\.|\n|"', "it": "Schedule", "letters": "sab", "words": ["retry*=", "retry.do"]}
 
 
 def _letter(items):
@@ -92,6 +92,7 @@ def patterns(folder=TOOLS):
                 yield from _of_call(f"{path.relative_to(folder)}:{node.lineno}", node, above, vars(module))
     for kind, pattern in reading._MARKS.items():
         yield f"the mark of {kind}", re.compile(pattern, re.M), "search"
+    yield from ((f"the words of .{it}", walking._words()[it][1], "search") for it in ("py", "yaml"))
     for pattern, *_ in json_reading._OTHER_TEXTS:
         yield "another text than JSON", re.compile(pattern), "match"
 

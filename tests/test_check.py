@@ -207,7 +207,7 @@ def test_a_change_has_its_status_and_its_findings(name, repository):
     known = json.loads(output)
     if name == "nothing":
         assert len(known["policies"]) == 40 and len({it["format"] for it in known["policies"]}) == 5
-        assert known["files"] == {"read": 34, "with_policies": 33, "left_out": {
+        assert known["files"] == {"searched": 34, "with_policies": 33, "not_understood": [], "left_out": {
             "another type of file": 3, "a link or no file": 1, "leave_out */testdata/*": 1}}
 
 
@@ -310,12 +310,12 @@ def test_the_table_has_a_line_for_each_policy_and_the_places_of_findings(reposit
     both(OVER, add(IGNORE), lambda top: (top / "workers/svc39.py").unlink())(repository)
     status, output, errors = run_here(main, ["zsched-policy", "check"])
     lines = [re.split("  +", line) for line in output.splitlines()]
-    assert status == 1 and lines[0][:3] == ["place", "policy", "what it does"] and len(lines) == 39 + 1 + 2
+    assert status == 1 and lines[0][:3] == ["place", "policy", "what it does"] and len(lines) == 39 + 1 + 3
     assert lines[8] == ["edge/svc07.yaml:8:21", "svc07", "up to 50 retries after 25 to 250 ms, each drawn from 0",
                         "1 to 51", "250 ms", "12.025 s", "20 s by its limit"]
-    assert lines[-2:] == [["39 policies in 32 files; 1 finding, 2 ignored"], [
-        "33 files read, 0 unreadable; 1 left out: a link or no file; 3 left out: another type of file; 1 left out: "
-        "leave_out */testdata/*"]]
+    assert lines[-3:] == [["39 policies in 32 files; 1 finding, 2 ignored"], [
+        "33 files searched, 0 unreadable; 1 left out: a link or no file; 3 left out: another type of file; 1 left out: "
+        "leave_out */testdata/*"], ["0 files mention retries and aren't understood"]]
     assert errors.splitlines() == [
         "zsched-policy: edge/svc07.yaml:8:21: svc07: end 1 min is not proved: a call of up to 20 s by the call's own "
         "limit (by_call_limit = true accepts it); ignored: goes in May",
@@ -427,7 +427,7 @@ def test_each_mark_is_needed(name, tmp_path, monkeypatch):
     if name == "_NAMES":
         monkeypatch.setattr(walking, "_KEY", never)
     elif name in walking._SOURCES:
-        monkeypatch.setitem(walking._SOURCES, name, never)
+        monkeypatch.setitem(walking._SOURCES, name, ((), never))
     else:
         monkeypatch.setattr(walking, name, (never, never) if name == "_FILTERS" else never)
     with pytest.raises(AssertionError):
@@ -436,7 +436,7 @@ def test_each_mark_is_needed(name, tmp_path, monkeypatch):
 
 def test_a_file_that_is_named_twice_is_read_once(repository):
     output = run_here(main, ["zsched-policy", "check", "edge", ".", "edge/svc00.yaml", "--json"])[1]
-    assert json.loads(output)["files"]["read"] == 34 and len(json.loads(output)["policies"]) == 40
+    assert json.loads(output)["files"]["searched"] == 34 and len(json.loads(output)["policies"]) == 40
 
 
 def test_the_limits_of_another_repository_are_not_taken(repository):
@@ -447,13 +447,15 @@ def test_the_limits_of_another_repository_are_not_taken(repository):
 
 
 def test_a_folder_without_git_is_read_as_it_is(repository, monkeypatch, capsys):
-    before = sorted(walking.files_of("."))
+    def files():
+        return sorted(walking.files_of(".", pytest.fail))
+    before = files()
     (repository / ".git" / "HEAD").write_text("ref: refs/heads/main\n")
     (repository / ".git" / "config").write_text("[core]\n\trepositoryformatversion = 99\n")
-    assert sorted(walking.files_of(".")) == sorted([*before, "built/all.yaml"])
+    assert files() == sorted([*before, "built/all.yaml"])
     assert "git lists no files of ., so all are read: fatal: " in capsys.readouterr().err
     shutil.rmtree(repository / ".git")
-    assert sorted(walking.files_of(".")) == sorted([*before, "built/all.yaml"]) and not capsys.readouterr().err
+    assert files() == sorted([*before, "built/all.yaml"]) and not capsys.readouterr().err
     (repository / "no" / "git").mkdir(parents=True)
     monkeypatch.setenv("PATH", executable(repository / "no" / "git" / "x", "").removesuffix("/x"))
     assert walking.folder_of_checkout(".") == str(repository)

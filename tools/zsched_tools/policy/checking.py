@@ -16,11 +16,12 @@ from zsched_tools.trying.layers import Layers
 from zsched_tools.words import duration, listed, plural, shown
 
 # What a finding is, by its word.
-RULES = {"unreadable": "A file or a policy that looks like one that is known, and can't be read.",
+RULES = {"unreadable": "A file or a folder that can't be read, or what looks like a known policy and can't.",
          "limit": "No proof holds a policy to a limit.",
          "not-applied": "A limit of a policy of which not each setting is applied.",
          "fits-nothing": "A part of .zsched.toml that fits no file, no policy, or no finding.",
-         "nothing": "No policy was found, or no policy has a limit."}
+         "nothing": "No policy was found, or no policy has a limit.",
+         "not-understood": "A file that mentions retries, and in which no policy is known. Only --strict asks for it."}
 
 
 @dataclass
@@ -61,13 +62,15 @@ class Checked:
 
 
 class Check:
-    """The policies of some places, and what is wrong. `files` counts those that weren't read by the rule, `read` and
-    `with_policies` the others. `allowed` has the settings that no check has to apply, and `is_whole` says whether all
-    files of the config's folder are read."""
+    """The policies of some places, and what is wrong. `files` counts what isn't searched, by the rule; `searched`
+    and `with_policies` the others. `mentions` has those that mention retries and have no policy, each with its place.
+    `allowed` has the settings that no check has to apply, and `is_whole` says whether all files of the config's folder
+    are searched."""
 
     def __init__(self, config, given):
         self.config, self.given, self.files, self.policies, self.findings = config, given, {}, [], []
-        self.read, self.with_policies, self.seen, self.allowed, self.is_whole = 0, 0, set(), set(), False
+        self.searched, self.with_policies, self.seen, self.allowed, self.is_whole = 0, 0, set(), set(), False
+        self.mentions = {}
 
     def walk(self, places):
         """Reads the policies of folders and files."""
@@ -76,25 +79,36 @@ class Check:
                 self._file(place, True)
                 continue
             self.is_whole |= not os.path.relpath(self.config.folder, place).startswith("..")
-            for path in walking.files_of(place):
-                if (rule := walking.rule_of(path, self.config)) is None:
+            for path in walking.files_of(place, self._unlisted):
+                try:
+                    rule = walking.rule_of(path, self.config)
+                except OSError as failure:
+                    self._add(Finding("unreadable", path, 1, failure.strerror or str(failure)))
+                    continue
+                if rule is None:
                     self._file(path, False)
                 else:
                     self.files[rule] = self.files.get(rule, 0) + 1
+
+    def _unlisted(self, path, why):
+        """Adds a folder that can't be listed, unless it is left out."""
+        if self.config.left_out(path) is None and self.config.left_out(os.path.join(path, "")) is None:
+            self._add(Finding("unreadable", path, 1, f"this folder can't be listed: {why}"))
 
     def _file(self, path, is_named):
         """Reads the policies of a file, once: of a folder's one if it looks as if it had any."""
         if (place := os.path.abspath(path)) in self.seen:
             return
         self.seen.add(place)
-        self.read += 1
+        self.searched += 1
+        policies, text = [], ""
         try:
-            if not is_named and not walking.has_mark(path, walking.text_of(path)):
-                return
-            with command.budget(path):
-                policies = configs.policies_of(path)
-                for found in policies:
-                    self._policy(path, found)
+            text = "" if is_named else walking.text_of(path)
+            if is_named or walking.is_known(path) and walking.has_mark(path, text):
+                with command.budget(path):
+                    policies = configs.policies_of(path)
+                    for found in policies:
+                        self._policy(path, found)
         except Refused as refused:
             rest = refused.args[0].removeprefix(f"{path}:")
             line, _, what = rest.partition(":") if rest[:1].isdigit() else ("1", "", rest)
@@ -106,8 +120,17 @@ class Check:
             self._add(Finding("unreadable", path, 1, failure.strerror or str(failure)))
             return
         self.with_policies += bool(policies)
+        if not policies and (found := walking.mention(path, text)):
+            self._mention(path, found)
         if is_named and not policies:
             self._add(Finding("nothing", path, 1, f"no policy; {configs.names_of([])}"))
+
+    def _mention(self, path, found):
+        """Adds a file that mentions retries and has no policy that is known."""
+        self.mentions[path] = found
+        if self.given.strict:
+            self._add(Finding("not-understood", path, found.line, f"{found.word} is a word of retries, and no policy "
+                              "of this file is known; leave_out or ignore says that it has none"))
 
     def _policy(self, path, found):
         """Adds a policy of a file, or why it can't be read."""

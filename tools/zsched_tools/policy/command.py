@@ -42,7 +42,7 @@ IMPORT = """Finds the retry policies in FILE, and prints a line of JSON for each
   celery        @app.task, @shared_task and classes of Task (Python source)
   tenacity      @retry, Retrying and AsyncRetrying (Python source, which is never run)
   backoff       @on_exception and @on_predicate (Python source)
-  urllib3       Retry, also that of requests (Python source)
+  urllib3       Retry, also that of requests, and HTTPAdapter(max_retries=3) (Python source)
   zio           schedules of ZIO 2 (Scala source, which is never run); docs/RECIPES.md has the tables for all three
   effect        schedules of Effect (TypeScript source)
   cats          policies of cats-retry (Scala source)
@@ -95,8 +95,8 @@ Two files or two folders are compared policy by policy, those of one name, and o
   zsched-policy diff before.yaml after.yaml
   zsched-policy diff ../main/services services"""
 DIFF_EPILOG = """Exit status: 0 if the canonical spelling, jitter and each setting are equal, also those that are left
-out, with their whole values; 1 if not, or if only one of two files or folders has a policy; 2 if a policy, a file or an
-option is wrong, or if there is no zsched; 3 if a program or writing fails."""
+out, with their whole values; 1 if not, if only one of two files or folders has a policy, or if neither has any; 2 if a
+policy, a file or an option is wrong, or if there is no zsched; 3 if a program or writing fails."""
 
 EXPLAIN = """Says what a policy does, a line for each part, and which parts never act; or what a word of policies does.
 
@@ -120,11 +120,13 @@ all formats that `import` knows, and those of each FILE.
 
   zsched-policy check --require-end 30s --attempt 5s
 
-Prints a line for each policy, and how many files were read and left out. Of a folder a file is read if its name ends as
-that of a config or a source, and its text has a key, a call or an import that `import` knows; without git all such
-files are. Limits are in .zsched.toml, beside or above all places:
+Prints a line for each policy, and how many files were searched and left out. A file of a folder is searched if its name
+ends as that of a config or a source; without git all such files are. It is read if its text has a key, a call or an
+import that `import` knows. What can't be read is a finding. A file that mentions retries, but in which no policy is
+known, is counted: for example Go, C# and Terraform have no reader. --list names these files, and with --strict each is
+a finding. Limits are in .zsched.toml, beside or above all places:
 
-  leave_out = ["testdata/*"]        files that aren't read; * fits slashes too
+  leave_out = ["testdata/*"]        files that aren't searched; * fits slashes too
 
   [[limits]]                        of all policies
   attempts = 6                      the most attempts
@@ -151,10 +153,10 @@ files are. Limits are in .zsched.toml, beside or above all places:
   reason = "goes in May"
 
 What fits nothing in .zsched.toml is an error, if its folder is checked as a whole."""
-CHECK_EPILOG = """Exit status: 0; 1 if a policy breaks a limit or it isn't proved, if a file or a policy that looks like
-one can't be read, if a part of .zsched.toml fits nothing, or if there is no policy or no limit; 2 if .zsched.toml or
-an option is wrong, or if a program isn't there; 3 if a program, reading or writing fails. In a run of GitHub's actions
-each finding is an annotation too."""
+CHECK_EPILOG = """Exit status: 0; 1 if a policy breaks a limit or it isn't proved, if a file, a folder or a policy that
+looks like one can't be read, if a part of .zsched.toml fits nothing, or if there is no policy or no limit; 2 if
+.zsched.toml or an option is wrong, or if a program isn't there; 3 if a program, reading or writing fails. In a run of
+GitHub's actions each finding is an annotation too."""
 EXPORT = """Writes a policy as code.
 
   $ zsched-policy export '(exponential(100) && recurs(5)) jitter 20%' --to zio
@@ -280,6 +282,8 @@ def _add_check(forms):
     given.add_argument("--allow-unproved", action="store_true",
                        help="accept what a zsched-bounds says that ./run built unproved, and ends by a call's limit")
     add_allowed(given)
+    given.add_argument("--list", action="store_true", help="name the files that mention retries and aren't understood")
+    given.add_argument("--strict", action="store_true", help="make a finding of each of these")
     given.add_argument("--json", action="store_true", help="print one object")
     given.add_argument("--sarif", metavar="FILE", help="write the findings as SARIF; - is standard output")
     command.add_programs(given, True)

@@ -8,7 +8,7 @@ import types
 
 from zsched_tools import bounding, program
 from zsched_tools.attempts import driver_of, entries_of, limits_of, mode_of
-from zsched_tools.command import NO, REFUSED, Refused
+from zsched_tools.command import NO, REFUSED, Refused, note
 from zsched_tools.drawn import RANGES
 from zsched_tools.policy import checking, configs, limits
 from zsched_tools.policy.telling import canonical, told_apart
@@ -143,11 +143,14 @@ def _place(text):
 def _policies(given, place):
     """The policies of a file or a folder by their names, and whether all could be read."""
     path = limits.find([place])
-    walked = types.SimpleNamespace(zsched=program.find(given.zsched), limits={}, allow_left_out=[])
+    walked = types.SimpleNamespace(zsched=program.find(given.zsched), limits={}, allow_left_out=[], strict=False)
     check = checking.Check(limits.read(path) if path else limits.Config("."), walked)
     check.walk([place])
     for it in check.findings:
         print(f"{TOOL}: {it.words()}", file=sys.stderr)
+    if number := len(check.mentions):
+        note(f"{place}: {plural(number, 'file')} with words of retries and without a policy that is known, so not "
+             "compared; zsched-policy check --list names them", TOOL)
     of_folder = os.path.isdir(place)
     return {f"{os.path.relpath(it.path, place)}#{it.found.name}" if of_folder else it.found.name: it.policy
             for it in check.policies}, not check.findings
@@ -180,4 +183,8 @@ def _places(given, places):
               f"policies in both: {len(both)}, without a difference: {len(both) - len(found)}", sep="\n")
     if not (is_one_whole and is_other_whole):
         return REFUSED
+    if not one and not other:
+        print(f"{TOOL}: neither {given.policies} nor {given.other} has a policy, so nothing was compared",
+              file=sys.stderr)
+        return NO
     return NO if found or only["A"] or only["B"] else 0

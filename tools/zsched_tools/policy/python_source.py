@@ -27,6 +27,7 @@ from zsched_tools.settings import ERRORS, codes_of, listed_codes
 
 FULL = {"kind": "full"}
 MOST_JITTERS = 1000
+RETRY = ("urllib3.Retry", "requests.Retry")
 # The order of the arguments of tenacity's strategies.
 ORDERS = {"wait_none": "", "wait_fixed": "wait", "wait_random": "min max", "wait_incrementing": "start increment max",
           "wait_exponential": "multiplier max exp_base min", "wait_random_exponential": "multiplier max exp_base min",
@@ -62,6 +63,9 @@ class _Source:
             for target in getattr(node, "targets", [getattr(node, "target", None)]):
                 if isinstance(target, ast.Name) and isinstance(node, (ast.Assign, ast.AnnAssign)):
                     self.constants[target.id] = None if target.id in self.constants else node.value
+        # The names that somewhere are set to a Retry.
+        self.retries = {it.targets[0].id for it in ast.walk(tree) if isinstance(it, ast.Assign) and isinstance(
+            it.targets[0], ast.Name) and isinstance(it.value, ast.Call) and self.called(it.value) in RETRY}
 
     def called(self, node):
         """The full name of what is called or named, without a module inside of the first one: `tenacity.retry`."""
@@ -96,8 +100,11 @@ class _Source:
             for it, given, calls in celery_tasks.options_of(self, node):
                 read = functools.partial(celery_tasks.policy_of, self, it, given, calls)
                 yield found("celery", getattr(node, "name", None) or "task", it, read)
-            if isinstance(node, ast.Call) and self.called(node) in ("urllib3.Retry", "requests.Retry"):
+            if isinstance(node, ast.Call) and self.called(node) in RETRY:
                 yield found("urllib3", name or "retry", node, lambda it=node: _urllib3(self, it))
+            if (count := _count_of_adapter(self, node)) is not None:
+                yield found("urllib3", name or "adapter", node, lambda it=node, by=count: _urllib3(
+                    self, ast.copy_location(ast.Call(it.func, [by], []), it)))
             retries = [it.value for it in getattr(node, "keywords", []) if it.arg == "retries"]
             if retries and self.called(node) in ("botocore.Config", "aiobotocore.AioConfig"):
                 yield found("aws", name or "config", node, lambda it=retries[0]: _botocore(self, it))
@@ -329,6 +336,17 @@ def _botocore(source, node):
         attempts = source.number(count) + ("total_max_attempts" not in given)
         data["max_attempts"] = Node(str(attempts), node.lineno)
     return services.aws(Node(data, node.lineno))
+
+
+def _count_of_adapter(source, node):
+    """The number of retries of an HTTPAdapter of requests, which makes a Retry of it, or None: it has none, or a Retry
+    that stands in the source itself."""
+    if not isinstance(node, ast.Call) or source.called(node) != "requests.HTTPAdapter":
+        return None
+    named = (it.value for it in node.keywords if it.arg == "max_retries")
+    given = node.args[2] if len(node.args) > 2 else next(named, None)
+    is_none = given is None or isinstance(given, ast.Constant) and not given.value
+    return None if is_none or isinstance(given, ast.Call) or getattr(given, "id", None) in source.retries else given
 
 
 def _urllib3(source, node):

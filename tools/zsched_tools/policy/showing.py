@@ -25,7 +25,7 @@ def _row(it):
 
 
 def show(check, given):
-    """Prints the table, then how many files were read, and on standard error what is wrong."""
+    """Prints the table, then how many files were searched, and on standard error what is wrong."""
     paint = command.Paint(given.color, sys.stdout)
     cells = [HEAD, *map(_row, check.policies)] if check.policies else []
     most = len(HEAD) if any(row[-1] for row in cells[1:]) else len(HEAD) - 1
@@ -33,7 +33,7 @@ def show(check, given):
     for number, line in enumerate(rows):
         broken = [] if number == 0 else check.policies[number - 1].broken
         print(paint("faint" if number == 0 else "bad" if any(it.reason is None for it in broken) else "", line))
-    print(*_summary(check), sep="\n")
+    print(*_summary(check, given), sep="\n")
     sys.stdout.flush()
     for it in check.findings:
         if it.reason is not None:
@@ -42,7 +42,7 @@ def show(check, given):
         print(f"zsched-policy: {it.words()}", file=sys.stderr)
 
 
-def _summary(check):
+def _summary(check, given):
     """How many policies and files there are, and which limits hold."""
     without = sum(not check.has_limit(it) for it in check.policies)
     wrong, ignored = len(check.wrong()), len(check.findings) - len(check.wrong())
@@ -51,7 +51,12 @@ def _summary(check):
         ignored > 0)
     left = "".join(f"; {count} left out: {rule}" for rule, count in sorted(check.files.items()))
     unread = len({it.path for it in check.findings if it.rule == "unreadable" and it.name is None})
-    yield f"{plural(check.read, 'file')} read, {unread} unreadable{left}"
+    yield f"{plural(check.searched, 'file')} searched, {unread} unreadable{left}"
+    number = len(check.mentions)
+    where = " (--list names them)" if number and not given.list else ":" * bool(number)
+    yield _many(number, "file mentions retries and isn't", "files mention retries and aren't") + f" understood{where}"
+    if given.list:
+        yield from (f"  {shown(path, 400)}:{it.line}: {shown(it.word)}" for path, it in check.mentions.items())
 
 
 def _many(number, one, many=None):
@@ -69,7 +74,9 @@ def as_object(check):
         for it in check.policies],
         "findings": [{"rule": it.rule, "path": it.path, "line": it.line, "column": it.column, "policy": it.name,
                       "text": it.text, "ignored": it.reason} for it in check.findings],
-        "files": {"read": check.read, "with_policies": check.with_policies, "left_out": check.files}}
+        "files": {"searched": check.searched, "with_policies": check.with_policies, "left_out": check.files,
+                  "not_understood": [{"path": path, "line": it.line, "word": it.word}
+                                     for path, it in check.mentions.items()]}}
 
 
 def _in_checkout(path, top):
