@@ -7,6 +7,7 @@ import shutil
 import subprocess
 import time
 
+import jsonschema
 import pytest
 
 from case_files import unpacked
@@ -15,7 +16,7 @@ from zsched_tools import bounding
 from zsched_tools.bounding import Driver
 from zsched_tools.drawn import Policy
 from zsched_tools.outage import command as outage
-from zsched_tools.policy import checking, configs, limits, saying, walking
+from zsched_tools.policy import checking, configs, limits, reading, saying, services, walking
 from zsched_tools.policy.command import main
 from zsched_tools.trying import command as trying
 
@@ -133,7 +134,7 @@ CHANGES = {
     "one is ignored and has no finding": (add(IGNORE), 1, [
         ("fits-nothing", ".zsched.toml:25", None, "[[ignore]] of path edge/* and name svc07", None)]),
     "a file is unreadable": (change("edge/svc03.yaml", "num_retries: 3", "num_retries: ["), 1, [
-        ("unreadable", "edge/svc03.yaml:8", None, "not YAML", None)]),
+        ("unreadable", "edge/svc03.yaml:8:51", None, "not YAML", None)]),
     "a policy is unreadable": (change("rpc/svc09.json", '"maxAttempts": 4, ', ""), 1, [
         ("unreadable", "rpc/svc09.json:1:84", "svc09", "no maxAttempts", None)]),
     "a policy's draws have no room": (lambda top: put(top / "a.json", json.dumps({
@@ -155,7 +156,7 @@ CHANGES = {
         ("limit", "workers/svc39.py:4:2", "svc39", "up to 5000 attempts", None)]),
     "no pattern fits": (change(".zsched.toml", "*/testdata/*", "*/data/*"), 1, [
         ("fits-nothing", ".zsched.toml:1", None, 'leave_out "*/data/*"', None),
-        ("unreadable", "shop/testdata/broken.yaml:2", None, "not YAML", None)]),
+        ("unreadable", "shop/testdata/broken.yaml:2:1", None, "not YAML", None)]),
     "a setting isn't applied": (change("jobs/svc16.yml", "backoffLimit: 2", "backoffLimit: 2\n  parallelism: 3"), 1, [
         ("not-applied", "jobs/svc16.yml:1:1", "svc16", "parallel isn't applied: 3", None)]),
     "a setting is allowed": (both(
@@ -258,7 +259,7 @@ def test_a_tool_that_is_wrong_is_found(name, file, right, wrong, changed, reposi
     make, wanted, findings = CHANGES[changed]
     make(repository)
     status, output, errors = run_tool([tools / "zsched-policy", "check", "--json"], folder=repository)
-    assert "Traceback" not in errors and "fault of this tool" not in errors
+    assert "Traceback" not in errors and "fault of this tool" not in errors and "internal error" not in output
     assert not is_as_wanted(status, output, wanted, findings)
 
 
@@ -358,7 +359,7 @@ WORDS = [
     (["jobs", "--require-end", "40s"], 1, "svc16: end 40 s is not proved: a call of up to 45 s"),
     (["jobs", "--require-end", "40s", "--attempt", "1s"], 0, ""),
     (["jobs", "edge/svc00.yaml"], 0, ""),
-    (["deploy.yaml"], 1, "deploy.yaml:2: not YAML"),
+    (["deploy.yaml"], 1, "deploy.yaml:2:1: not YAML"),
     (["README.md"], 0, ""),
     (["--config", "jobs/none.toml"], 3, "jobs/none.toml: No such file"),
     (["none"], 3, "none: No such file"),
@@ -412,7 +413,7 @@ def test_each_file_in_which_a_policy_is_found_looks_as_if_it_had_one(tmp_path):
         (tmp_path / name).write_text(text)
         try:
             policies = configs.policies_of(str(tmp_path / name))
-        except configs.Refused:
+        except configs.Unread:
             continue
         found += bool(policies)
         marked += walking.has_mark(name, text)
@@ -536,6 +537,156 @@ def test_a_comparison_that_is_wrong_is_found(right, wrong, name, repository, tmp
     make(other)
     status, output, errors = run_tool([tools / "zsched-policy", "diff", repository, other])
     assert "fault of this tool" not in errors and (status != wanted or set(lines) - set(output.splitlines()))
+
+
+# Of each format a file with two policies that can't be read and one that makes too many attempts, and the lines and the
+# columns of all three, counted by hand.
+WRONG_FILES = {
+    "a.scala": ("""import zio._
+object A {
+  val a = Schedule.exponential(1.second, 1.5)
+  val b = Schedule.recurs(limitOf(config)) && Schedule.spaced(1.second)
+  val c = Schedule.recurs(50)
+}
+""", [(3, 20), (4, 27), (5, 11)]),
+    "a.ts": ("""import { Schedule } from "effect"
+export const a = Schedule.recurs(limitOf(config))
+export const b = Schedule.spaced(slow())
+export const c = Schedule.recurs(50)
+""", [(2, 34), (3, 34), (4, 18)]),
+    "a.py": ("""import tenacity as t
+
+
+@t.retry(stop=t.stop_after_attempt(MOST))
+def a(): pass
+
+
+@t.retry(before=é, wait=slowly(3))
+def b(): pass
+
+
+@t.retry(stop=t.stop_after_attempt(50))
+def c(): pass
+""", [(4, 36), (8, 25), (12, 2)]),
+    "a.yaml": ("""resilience4j.retry.instances:
+  a: {maxAttempts: none}
+  b: {maxAttempts: 3, waitDuration: soon}
+  c: {maxAttempts: 50}
+""", [(2, 20), (3, 37), (4, 6)]),
+    "a.json": ("""{"methodConfig": [
+  {"name": [{"service": "a"}], "retryPolicy": {"maxAttempts": 4}},
+  {"name": [{"service": "b"}], "retryPolicy": {"maxAttempts": 4, "initialBackoff": "soon", "maxBackoff": "1s",
+    "backoffMultiplier": 2, "retryableStatusCodes": ["UNAVAILABLE"]}},
+  {"name": [{"service": "c"}], "retryPolicy": {"maxAttempts": 5, "initialBackoff": "1s", "maxBackoff": "1s",
+    "backoffMultiplier": 2, "retryableStatusCodes": ["UNAVAILABLE"]}}]}
+""", [(2, 47), (3, 84), (5, 47)]),
+    "A.java": ("""class A {
+  IntervalFunction a = IntervalFunction.of(config.wait());
+  IntervalFunction b = IntervalFunction.ofRandomized(1, 2, 3, 4, 5);
+  RetryConfig c = RetryConfig.custom().maxAttempts(50).intervalFunction(IntervalFunction.of(500)).build();
+}
+""", [(2, 24), (3, 24), (4, 73)]),
+    "a.properties": ("""resilience4j.retry.instances.a.maxAttempts=none
+  resilience4j.retry.instances.b.waitDuration = soon
+resilience4j.retry.instances.c.maxAttempts=50
+""", [(1, 44), (2, 49), (3, 1)]),
+    "config.ini": ("""[default]
+retry_mode = often
+[profile b]
+max_attempts = none
+[profile c]
+retry_mode = standard
+max_attempts = 50
+""", [(2, 14), (4, 16), (5, 1)])}
+# What SARIF 2.1.0 asks of the findings: places are whole numbers from 1, and these keys have to be there.
+SARIF = {
+    "required": ["version", "runs"], "properties": {"version": {"const": "2.1.0"}, "runs": {"type": "array", "items": {
+        "required": ["tool", "results"], "properties": {
+            "tool": {"required": ["driver"], "properties": {"driver": {"required": ["name"]}}},
+            "results": {"type": "array", "items": {
+                "required": ["message", "locations"], "properties": {
+                    "ruleId": {"type": "string"}, "ruleIndex": {"type": "integer", "minimum": 0},
+                    "level": {"enum": ["none", "note", "warning", "error"]},
+                    "message": {"required": ["text"], "properties": {"text": {"type": "string"}}},
+                    "locations": {"type": "array", "items": {"properties": {"physicalLocation": {
+                        "required": ["artifactLocation", "region"], "properties": {
+                            "artifactLocation": {"required": ["uri"], "properties": {"uri": {
+                                "type": "string", "pattern": "^[!-~]+$"}}},
+                            "region": {"required": ["startLine"], "properties": {
+                                "startLine": {"type": "integer", "minimum": 1},
+                                "startColumn": {"type": "integer", "minimum": 1}}}}}}}}}}}}}}}}
+
+
+def outputs_of(words, monkeypatch):
+    """The findings of a check by its three outputs, each a line, a column and a text, and its status."""
+    command = ["zsched-policy", "check", *words]
+    monkeypatch.setenv("GITHUB_ACTIONS", "true")
+    ran = [run_here(main, [*command, *more]) for more in (["--json"], ["--sarif", "-"], [])]
+    assert all(it[0] == ran[0][0] and "fault of this tool" not in it[2] for it in ran), ran
+    sarif = json.loads(ran[1][1])
+    jsonschema.Draft202012Validator(SARIF).validate(sarif)
+    regions = [(it["locations"][0]["physicalLocation"]["region"], it["message"]["text"])
+               for run in sarif["runs"] for it in run["results"]]
+    notes = [re.fullmatch(r"::error file=[^,]*,line=(\d+)(?:,col=(\d+))?,title=[^:]*::(.*)", it).groups()
+             for it in ran[2][1].splitlines() if it.startswith("::")]
+    return ran[0][0], [
+        [(it["line"], it["column"], f"{it['policy']}: {it['text']}" if it["policy"] else it["text"])
+         for it in json.loads(ran[0][1])["findings"]],
+        [(it["startLine"], it.get("startColumn"), text) for it, text in regions],
+        [(int(line), column and int(column), text) for line, column, text in notes]]
+
+
+@pytest.mark.parametrize("name", WRONG_FILES)
+def test_each_format_has_findings_at_places_in_all_outputs(name, programs, monkeypatch, tmp_path):
+    text, places = WRONG_FILES[name]
+    monkeypatch.chdir(tmp_path)
+    put(tmp_path / name, text)
+    status, outputs = outputs_of([name, "--require-attempts", "3"], monkeypatch)
+    found = outputs[0]
+    assert status == 1 and outputs == [found] * 3 and [it[:2] for it in found] == places, found
+    assert found == sorted(found) and "attempts 3 is not proved: up to 5" in found[-1][2]
+
+
+def test_the_place_of_a_file_s_fault_is_a_line_and_a_column(programs, monkeypatch, tmp_path):
+    """Also in a file whose name isn't UTF-8."""
+    monkeypatch.chdir(tmp_path)
+    for name, text in [("t.ts", 'import { Schedule } from "effect"\nconst a = (Schedule.recurs(3)\n'),
+                       (os.fsdecode(b"\xff.py"), "import tenacity\nx = é(:\n"), ("a.json", '{"maxAttempts": é}'),
+                       ("a.yaml", "retry_policy: {num_retries: é]\n")]:
+        put(tmp_path / name, text)
+    status, outputs = outputs_of([".", "--require-attempts", "3"], monkeypatch)
+    assert status == 1 and outputs == [outputs[0]] * 3 and [it[:2] for it in outputs[0]] == [
+        (1, 17), (1, 30), (2, 11), (2, 7)]
+    assert outputs[0][2][2] == "not TypeScript: ( isn't closed"
+
+
+@pytest.mark.parametrize("fault, said", [
+    (TypeError("a\nb"), "internal error, please report: TypeError('a\\nb'); ZSCHED_TRACE=1 shows where"),
+    (RecursionError(), "the input is nested too deeply"), (MemoryError(), None), (KeyboardInterrupt(), None)])
+@pytest.mark.parametrize("place, line, policy", [((reading, "read_json"), "1", None),
+                                                 ((services, "_grpc"), "1:84", "svc09")])
+def test_a_fault_of_a_tool_in_one_file_is_a_finding_of_it(place, line, policy, fault, said, repository, monkeypatch):
+    """The findings of the other files are there all the same, and those of the file's other policies."""
+    OVER(repository)
+    for path in sorted(repository.glob("rpc/*"))[:-1]:
+        path.unlink()
+    (repository / "rpc/svc15.json").rename(repository / "rpc/svc09.json")
+    change("rpc/svc09.json", "svc15", "svc09")(repository)
+    (repository / ".zsched.toml").write_text("[[limits]]\nattempts = 6\n")
+
+    def broken(*_):
+        raise fault
+    monkeypatch.setattr(*place, broken)
+    monkeypatch.setenv("ZSCHED_TRACE", "1")
+    status, output, errors = run_here(main, ["zsched-policy", "check", "--json", "edge", "rpc"])
+    if said is None:
+        assert status == (3 if isinstance(fault, MemoryError) else 130) and not output
+        return
+    assert status == 1 and ("in broken" in errors) == isinstance(fault, TypeError), errors
+    over = "attempts 6 is not proved: up to 51 attempts"
+    assert found_in(output) == [("limit", "edge/svc07.yaml:8:21", "svc07", over, None),
+                                ("unreadable", f"rpc/svc09.json:{line}", policy, said, None)]
+    assert len(json.loads(output)["policies"]) == 8
 
 
 # Policies, and what a reader of docs/SEMANTICS.md says of them: retries, least and greatest wait, attempts, end.

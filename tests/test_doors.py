@@ -216,7 +216,7 @@ PLAN = '{"horizon":9,"policies":{"a":"recurs(1)"}}'
     ("p.yaml", f"horizon: {'9' * 5000}\npolicies: {{a: recurs(1)}}",
      "p.yaml:1:10: this number is too large for any reader of JSON"),
     ("p.json", '{"resilience4j.retry":{"instances":{"a":{"baseConfig":[1]}},"configs":{"b":{}}}}',
-     "p.json:1: a: there is no config this for this baseConfig")],
+     "p.json:1:55: a: there is no config this for this baseConfig")],
     ids=lambda it: it and it[-40:].strip())
 def test_what_was_a_fault_of_a_tool_is_an_error_with_its_place(name, text, said, tmp_path, monkeypatch):
     monkeypatch.chdir(tmp_path)

@@ -50,6 +50,14 @@ class Refused(Exception):
         return "\n".join(map(str, self.args))
 
 
+class Unread(Refused):
+    """A file that is rejected: its path, what is wrong, and the line and the column, from 1, where they are known."""
+
+    def __init__(self, path, what, line=None, column=None):
+        super().__init__(f"{':'.join(str(it) for it in (path, line, column) if it is not None)}: {what}")
+        self.path, self.what, self.line, self.column = path, what, line, column
+
+
 class Border:
     """Standard output or standard error, through which all texts go. No text of an input is more than a text there:
     each is on one line, has no letter that isn't printable, and starts no command of a CI."""
@@ -145,8 +153,12 @@ def _status_of(tool, work):
         return _told(tool, INTERRUPTED, "interrupted")
     except Exception as fault:
         _drop_output()
-        trace = "".join(traceback.format_exception(fault)).splitlines() if os.environ.get("ZSCHED_TRACE") else []
-        return _told(tool, FAILED, f"{FAULT}: {fault!r}; ZSCHED_TRACE=1 shows where", *trace)
+        return _told(tool, FAILED, f"{FAULT}: {fault!r}; ZSCHED_TRACE=1 shows where", *trace_of(fault))
+
+
+def trace_of(fault):
+    """The lines that show where in a tool a fault is, if they are asked for."""
+    return "".join(traceback.format_exception(fault)).splitlines() if os.environ.get("ZSCHED_TRACE") else []
 
 
 def _drop_output():
@@ -380,11 +392,11 @@ def read(path, most=None):
 
 
 @contextlib.contextmanager
-def limited(timer, seconds, what):
+def limited(timer, seconds, what, refused=Refused):
     """Ends what is inside by Refused, with these words, after some seconds: of time, or of the processor's. A limit
     around this one goes on after it."""
     def end(*_):
-        raise Refused(what)
+        raise refused(what)
     number, clock = {signal.ITIMER_REAL: (signal.SIGALRM, time.monotonic),
                      signal.ITIMER_VIRTUAL: (signal.SIGVTALRM, time.process_time)}[timer]
     before = signal.signal(number, end)
@@ -402,17 +414,17 @@ def limited(timer, seconds, what):
 
 def opened(path):
     """A file, opened to be read."""
-    with limited(signal.ITIMER_REAL, PATIENCE, f"{path}: no program writes into this pipe"):
+    with limited(signal.ITIMER_REAL, PATIENCE, "no program writes into this pipe", functools.partial(Unread, path)):
         try:
             return open(path, "rb")
         except ValueError:
-            raise Refused(f"{path}: no file has such a name") from None
+            raise Unread(path, "no file has such a name") from None
 
 
 def budget(path):
     """The limit of work for a file of policies, whose reader is inside."""
-    return limited(signal.ITIMER_VIRTUAL, WORK, f"{path}: the file needs more than {WORK} s of the processor to be "
-                   "read: cut out the part with the policies")
+    return limited(signal.ITIMER_VIRTUAL, WORK, f"the file needs more than {WORK} s of the processor to be read: cut "
+                   "out the part with the policies", functools.partial(Unread, path))
 
 
 def write(path, data):

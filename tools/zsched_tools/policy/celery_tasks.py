@@ -6,7 +6,6 @@ default_retry_delay, or the countdown of its retry. A retry is a new message: it
 import ast
 
 from zsched_tools.policy.fields import default, made
-from zsched_tools.policy.reading import Wrong
 from zsched_tools.policy.spelling import constant, exponential, nearest
 from zsched_tools.settings import ERRORS
 
@@ -86,7 +85,7 @@ def _members(source, node):
         return {it.arg: it.value for it in node.keywords}
     keys = [getattr(it, "value", None) for it in node.keys] if isinstance(node, ast.Dict) else [None]
     if None in keys:
-        raise Wrong(node.lineno, f"{source.shown(node)} can't be known without running the source")
+        raise source.wrong(node, f"{source.shown(node)} can't be known without running the source")
     return dict(zip(keys, node.values))
 
 
@@ -95,7 +94,7 @@ def _of_calls(source, calls):
     found = [{it.arg: it.value for it in call.keywords if it.arg in ("countdown", "eta", "max_retries")}
              for call in calls]
     if len({tuple((name, source.whole(it)) for name, it in given.items()) for given in found}) > 1:
-        raise Wrong(calls[1].lineno, f"{source.shown(calls[1])} retries otherwise than line {calls[0].lineno}")
+        raise source.wrong(calls[1], f"{source.shown(calls[1])} retries otherwise than line {calls[0].lineno}")
     if any("eta" in given for given in found):
-        raise Wrong(calls[0].lineno, f"{source.shown(calls[0])} can't be known without running the source")
+        raise source.wrong(calls[0], f"{source.shown(calls[0])} can't be known without running the source")
     return found[0] if found else {}

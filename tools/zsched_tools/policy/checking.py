@@ -1,11 +1,12 @@
 """All policies of folders and files: each that is found, its bounds, and what of it breaks a limit or can't be read."""
 import os
+import sys
 import types
 from dataclasses import dataclass, field, replace
 
 from zsched_tools import bounding, checks, command, drawn
 from zsched_tools.bounding import Bounds, Driver
-from zsched_tools.command import Refused
+from zsched_tools.command import Refused, Unread
 from zsched_tools.place import FaultAt
 from zsched_tools.policy import configs, limits, saying, walking
 from zsched_tools.policy.fields import Found
@@ -61,6 +62,22 @@ class Checked:
         return Finding(rule, self.path, self.found.line, text, self.found.column, self.found.name)
 
 
+def _unread(path, refused):
+    """The finding that a file is rejected, at the place that is known of it."""
+    if isinstance(refused, Unread):
+        return Finding("unreadable", path, refused.line or 1, refused.what, refused.column)
+    return Finding("unreadable", path, 1, str(refused))
+
+
+def _fault(fault):
+    """What is said of a fault of a tool in one file. The check of the others goes on."""
+    if isinstance(fault, RecursionError):
+        return "the input is nested too deeply"
+    for line in command.trace_of(fault):
+        print(line, file=sys.stderr)
+    return f"internal error, please report: {shown(repr(fault), 400)}; ZSCHED_TRACE=1 shows where"
+
+
 class Check:
     """The policies of some places, and what is wrong. `files` counts what isn't searched, by the rule; `searched`
     and `with_policies` the others. `mentions` has those that mention retries and have no policy, each with its place.
@@ -110,14 +127,17 @@ class Check:
                     for found in policies:
                         self._policy(path, found)
         except Refused as refused:
-            rest = refused.args[0].removeprefix(f"{path}:")
-            line, _, what = rest.partition(":") if rest[:1].isdigit() else ("1", "", rest)
-            self._add(Finding("unreadable", path, int(line), what.strip()))
+            self._add(_unread(path, refused))
             return
         except OSError as failure:
             if is_named or failure.errno is None:
                 raise
             self._add(Finding("unreadable", path, 1, failure.strerror or str(failure)))
+            return
+        except MemoryError:
+            raise
+        except Exception as fault:
+            self._add(Finding("unreadable", path, 1, _fault(fault)))
             return
         self.with_policies += bool(policies)
         if not policies and (found := walking.mention(path, text)):
@@ -138,8 +158,15 @@ class Check:
             policy = drawn.Policy(f"@{path}#{found.name}", self.given.zsched, configs.policy_of(found))
             policy.schedule(drawn.HIGH)
         except (Wrong, FaultAt) as wrong:
-            line, what = wrong.args if isinstance(wrong, Wrong) else (found.line, wrong.cause.what)
-            self._add(Finding("unreadable", path, line, what, found.column if line == found.line else None, found.name))
+            what = (wrong.line, wrong.what, wrong.column) if isinstance(wrong, Wrong) else (
+                found.line, wrong.cause.what, found.column)
+            self._add(Finding("unreadable", path, *what, found.name))
+            return
+        except (Refused, OSError, MemoryError):
+            # The limit of the file's work is over, or a program is missing: its other policies fare no better.
+            raise
+        except Exception as fault:
+            self._add(Finding("unreadable", path, found.line, _fault(fault), found.column, found.name))
             return
         known = self.config.of(path, found.name) | self.given.limits
         attempt = min(filter(None, (known.get("attempt"), policy.timeout)), default=None)

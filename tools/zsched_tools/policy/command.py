@@ -250,9 +250,7 @@ def _export(given):
         policy = Policy(given.policy, zsched)
         Policy("".join(it.spelled for it in policy.pieces if it.draw != ""), zsched).check(zsched)
         policy.show(TOOL, "export")
-        random = next((it for it in policy.pieces if it.draw and it.share is None), None)
-        if random is not None:
-            raise FaultAt(Cause(policy.begin + random.at, random.size, "random numbers can't be written there"))
+        _refuse_draws(policy)
         try:
             code, notes = exporting.TARGETS[given.to](policy.name or "policy", "".join(
                 it.spelled for it in policy.pieces))
@@ -266,6 +264,18 @@ def _export(given):
         note(it, TOOL)
     sys.stdout.writelines([code])
     return 0
+
+
+def _refuse_draws(policy):
+    """Rejects what no library draws, at its place: what is added to waits, and random numbers."""
+    rows = [("what is added to each wait can't be written there", lambda it: it.draw == "" and "+" in it.spelled),
+            ("random numbers can't be written there", lambda it: it.draw and it.share is None)]
+    for what, is_refused in rows:
+        if (found := next(filter(is_refused, policy.pieces), None)) is not None:
+            spaces = len(found.spelled) - len(found.spelled.lstrip(" ")) if found.draw == "" else 0
+            # The text of a file's policy is not the one that was given.
+            raise FaultAt(Cause(0, len(policy.text), what) if policy.waits else
+                          Cause(policy.begin + found.at + spaces, found.size - spaces, what))
 
 
 def _add_check(forms):

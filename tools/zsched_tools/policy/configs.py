@@ -1,6 +1,6 @@
 """The policies of a config's file: each is found first, and read when it is wanted."""
 from zsched_tools import command
-from zsched_tools.command import Refused
+from zsched_tools.command import Unread
 from zsched_tools.policy import libraries, python_source, reading, scala_policies, services
 from zsched_tools.policy.reading import Wrong
 from zsched_tools.words import listed, shown
@@ -34,7 +34,7 @@ def policies_of(path):
             used[name] = used.get(name, 0) + 1
             named.append(policy._replace(name=name if used[name] == 1 else f"{name}-{used[name]}"))
     except Wrong as wrong:
-        raise Refused(f"{path}:{wrong.args[0]}: {wrong.args[1]}") from None
+        raise Unread(path, wrong.what, wrong.line, wrong.column) from None
     return named
 
 
@@ -51,7 +51,7 @@ def policy_of_file(path, name):
         chosen = [it for it in policies if name in (None, it.name)] or (policies if name == EACH else [])
         if not chosen or any(it.read is not chosen[0].read for it in chosen):
             what = "more than one policy, write @FILE#NAME" if chosen else f"no policy {shown(name or '')}".rstrip()
-            raise Refused(f"{path}: {what}; {names_of(policies)}")
+            raise Unread(path, f"{what}; {names_of(policies)}")
         return read(path, chosen[0])
 
 
@@ -60,7 +60,7 @@ def read(path, found):
     try:
         policy = policy_of(found)
     except Wrong as wrong:
-        raise Refused(f"{path}:{wrong.args[0]}: {found.name}: {wrong.args[1]}") from None
+        raise Unread(path, f"{found.name}: {wrong.what}", wrong.line, wrong.column) from None
     for what in policy.notes:
         command.note(f"{found.name}: {what}", "zsched-policy")
     return policy
@@ -71,7 +71,7 @@ def policy_of(found):
     try:
         policy = found.read()
     except ValueError as wrong:
-        raise Wrong(found.line, str(wrong)) from None
+        raise Wrong(found.line, wrong, found.column) from None
     policy.name = found.name
     return policy
 
@@ -80,7 +80,7 @@ def each_of_file(path):
     """The Policy of each that a file has."""
     with command.budget(path):
         if not (policies := policies_of(path)):
-            raise Refused(f"{path}: no policy; {names_of(policies)}")
+            raise Unread(path, f"no policy; {names_of(policies)}")
         return [read(path, it) for it in policies]
 
 

@@ -20,7 +20,7 @@ MOST = 2**63 - 1
 # No name of a value, in Scala or in TypeScript.
 _WORDS = set(" ".join(KEYS.values()).split()) | set("true false null this super with enum delete in void".split())
 MOST_PARTS = 22
-_JITTER = re.compile(r"\bjitter +(full|equal|([0-9.]+) *%|([0-9/]+)\.\.([0-9/]+))")
+_JITTER = re.compile(r"\bjitter +(full|equal|([0-9.]+) *%|[0-9/]+(?:\.[0-9]+)?\.\.[0-9/]+(?:\.[0-9]+)?)")
 
 
 class Code(NamedTuple):

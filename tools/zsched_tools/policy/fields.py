@@ -5,7 +5,7 @@ from typing import Callable, NamedTuple
 
 from zsched_tools.durations import UNITS, exact_milliseconds
 from zsched_tools.hints import TABLE
-from zsched_tools.policy.reading import Node, Table, Wrong, plain
+from zsched_tools.policy.reading import Node, Table, plain
 from zsched_tools.policy.spelling import drawn, spelled
 from zsched_tools.settings import ERRORS, Policy
 from zsched_tools.words import shown
@@ -73,7 +73,7 @@ def part(node, *names):
 
 def timeouts(node):
     """The settings of a table whose names end with timeout."""
-    return Fields(Node(_table(node).timeouts, node.line))
+    return Fields(node._replace(data=_table(node).timeouts))
 
 
 def value_of(node):
@@ -92,7 +92,7 @@ class Fields:
 
     def __init__(self, node, *less):
         """`less` are tables with the settings that this one doesn't have."""
-        self.line, self.found, self.left = node.line, {}, {}
+        self.wrong, self.found, self.left = node.wrong, {}, {}
         for name, value in (item for table in [node, *less] if table.is_table() for item in table.data.items()):
             if value.data is not None and plain(name) not in self.found:
                 self.found[plain(name)], self.left[plain(name)] = value, name
@@ -127,22 +127,22 @@ def number(node, least=0):
     """A value as an exact fraction."""
     text = (text_of(node) or "").strip()
     if not _SIGNED.fullmatch(text):
-        raise Wrong(node.line, f"{named(node)} is not a number")
+        raise node.wrong(f"{named(node)} is not a number")
     if Fraction(text) < least:
-        raise Wrong(node.line, f"{named(node)} is less than {least}")
+        raise node.wrong(f"{named(node)} is less than {least}")
     return Fraction(text)
 
 
 def whole(node, least=0):
     found = number(node, least)
     if found.denominator != 1:
-        raise Wrong(node.line, f"{named(node)} is not a whole number")
+        raise node.wrong(f"{named(node)} is not a whole number")
     return int(found)
 
 
 def truth(node):
     if str(node.data).lower() not in ("true", "false"):
-        raise Wrong(node.line, f"{named(node)} is neither true nor false")
+        raise node.wrong(f"{named(node)} is neither true nor false")
     return node.data.lower() == "true"
 
 
@@ -155,7 +155,7 @@ def texts(node):
     """A list of texts, or a text with commas, as texts."""
     items = node.data.split(",") if isinstance(node.data, str) else [getattr(it, "data", None) for it in node.data]
     if not all(isinstance(item, str) for item in items):
-        raise Wrong(node.line, "this is not a list of texts")
+        raise node.wrong("this is not a list of texts")
     return [item.strip() for item in items if item.strip()]
 
 
@@ -169,9 +169,9 @@ def duration(node, unit=None):
         return sum(Fraction(it) * size for it, size in zip(found.groups(), [DAY, 3_600_000, 60_000, 1000]) if it)
     if _SIGNED.fullmatch(text):
         if unit is None and number(node):
-            raise Wrong(node.line, f"{named(node)} has no unit: write it as 1.5s")
+            raise node.wrong(f"{named(node)} has no unit: write it as 1.5s")
         return number(node) * (unit or 1)
     exact = exact_milliseconds(text.upper() if text.startswith("p") else text)
     if exact is None:
-        raise Wrong(node.line, f"{named(node)} is not a duration: write it as 1.5s")
+        raise node.wrong(f"{named(node)} is not a duration: write it as 1.5s")
     return exact

@@ -26,7 +26,7 @@ from http import HTTPStatus
 
 from zsched_tools.policy.fields import (DAY, Fields, Found, default, duration, items, keys_of, made, named, number,
                                         part, plain, text_of, texts, truth, value_of, whole)
-from zsched_tools.policy.reading import Node, Wrong, unfolded
+from zsched_tools.policy.reading import Node, unfolded
 from zsched_tools.policy.services import label, tables
 from zsched_tools.policy.spelling import (GREATEST, Draws, Waits, constant, decorrelated, exponential, growing,
                                           linear)
@@ -75,7 +75,7 @@ def _resilience(node, configs):
     while base is not None:
         tables_.append(configs.data.get(text_of(base)) if configs is not None and configs.is_table() else None)
         if tables_[-1] is None or any(tables_[-1] is it for it in tables_[:-1]):
-            raise Wrong(base.line, f"there is no config {named(base)} for this baseConfig")
+            raise base.wrong(f"there is no config {named(base)} for this baseConfig")
         base = part(tables_[-1], "baseconfig")
     fields = Fields(*tables_)
     fields.take("baseconfig")
@@ -89,7 +89,7 @@ def _resilience(node, configs):
         share = fields.get(number, "randomizedwaitfactor", default=Fraction(1, 2))
         jitter = {"kind": "proportional", "percent": _short(share * 100)}
     if factor < 1 or share >= 1:
-        raise Wrong(node.line, "exponentialBackoffMultiplier must be at least 1, and randomizedWaitFactor below 1")
+        raise node.wrong("exponentialBackoffMultiplier must be at least 1, and randomizedWaitFactor below 1")
     waits = functools.partial(cut, int(first), factor, after=lambda wait: math.ceil(wait * (1 + share)))
     most = None if most is None else int(most)
     draws = share and most is not None and _capped(waits, (1 - share) / (1 + share), most, retries)
@@ -174,9 +174,9 @@ def _gateway(node):
     """A filter: a table of its name and arguments, or their text, as Retry=3,BAD_GATEWAY,GET,10ms,50ms,2,false."""
     names = ["retries", "statuses", "methods", "firstBackoff", "maxBackoff", "factor", "basedOnPreviousValue"]
     given = zip(names, (text_of(node) or "").partition("=")[2].split(","))
-    short = {name: Node(value.strip(), node.line) for name, value in given if value.strip()}
-    args = part(node, "args") if node.is_table() else Node(short, node.line)
-    args = args if args is not None and args.is_table() else Node({}, node.line)
+    short = {name: node._replace(data=value.strip()) for name, value in given if value.strip()}
+    args = part(node, "args") if node.is_table() else node._replace(data=short)
+    args = args if args is not None and args.is_table() else node._replace(data={})
     back_off = part(args, "backoff")
     fields = Fields(args, *([back_off] if back_off is not None else []))
     fields.take("backoff")
@@ -190,7 +190,7 @@ def _gateway(node):
     # Without them, exceptions of input and output, and of time.
     on = on if classes else listed_codes([*on, "0"])
     if unknown:
-        raise Wrong(node.line, f'"{unknown[0]}" is not a status or a series of HTTP')
+        raise node.wrong(f'"{unknown[0]}" is not a status or a series of HTTP')
     return made(exponential(first, factor, most) if has_waits else constant(0), retries,
                 {**classes, **fields.left_out()}, on=on)
 
@@ -206,13 +206,14 @@ def find_java(text):
             at = whole.start() + found.start()
             line = bisect.bisect_left(ends, at) + 1
             arguments = found[2].split(",") if found[2].strip() else []
-            yield Found("resilience4j", name[1] if name and name.end() <= found.start() else found[1], line,
-                        functools.partial(_interval_function, found[1], arguments, count and count[1], line),
-                        at - (ends[line - 2] if line > 1 else -1))
+            here = Node(found[1], line, 1, at - (ends[line - 2] if line > 1 else -1))
+            yield Found.at("resilience4j", name[1] if name and name.end() <= found.start() else found[1], here,
+                           functools.partial(_interval_function, here, arguments, count and count[1]))
 
 
-def _interval_function(call, arguments, count, line):
-    values = [_java(it.strip(), line) for it in arguments]
+def _interval_function(here, arguments, count):
+    """The policy of a call, whose name and place is a node."""
+    call, values = here.data, [_java(it.strip(), here) for it in arguments]
     wait, factor, most, share = ("waitDuration", "exponentialBackoffMultiplier", "exponentialMaxWaitDuration",
                                  "randomizedWaitFactor")
     names = {"of": [wait], "ofDefaults": [], "ofRandomized": [wait, share],
@@ -221,23 +222,23 @@ def _interval_function(call, arguments, count, line):
     if len(names) == 4 and len(values) == 3 and not values[2][1]:
         names = [wait, factor, most]
     if len(values) > len(names) or call[2:] not in ("", "Defaults") and not names:
-        raise Wrong(line, f"IntervalFunction.{call} with {len(arguments)} arguments can't become a schedule")
+        raise here.wrong(f"IntervalFunction.{call} with {len(arguments)} arguments can't become a schedule")
     table = dict(zip(names, [text for text, _ in values])) | ({"maxAttempts": count} if count else {})
     table |= {"enableExponentialBackoff": "true"} if "Exponential" in call else {}
     table |= {"enableRandomizedWait": "true"} if "Random" in call else {}
-    policy = _resilience(Node({name: Node(text, line) for name, text in table.items()}, line), None)
+    policy = _resilience(here._replace(data={name: here._replace(data=it) for name, it in table.items()}), None)
     policy.left_out |= {} if count else {"maxAttempts": "not beside the call, so its default"}
     return policy
 
 
-def _java(text, line):
+def _java(text, here):
     """A number or a Duration of Java as a setting's text, and whether it is a double."""
     if found := re.fullmatch(r"(?:java\.time\.)?Duration\.of(Millis|Seconds|Minutes|Hours)\(([0-9_]+)[lL]?\)", text):
         unit = {"Millis": "ms", "Seconds": "s", "Minutes": "min", "Hours": "h"}[found[1]]
         return found[2].replace("_", "") + unit, False
     if found := re.fullmatch(r"([0-9_]++(?:\.[0-9_]++)?|\.[0-9_]++)([dDfFlL]?)", text):
         return found[1].replace("_", ""), "." in text or found[2] in "dDfF" and found[2] != ""
-    raise Wrong(line, f"{text} is not a number that can be known without running the source")
+    raise here.wrong(f"{text} is not a number that can be known without running the source")
 
 
 def _polly(node, around):
@@ -252,7 +253,7 @@ def _polly(node, around):
     word = kinds[2 * is_http] if kind is None else str(kind.data).lower()
     word = kinds[int(word)] if word in ("0", "1", "2") else word
     if word not in kinds:
-        raise Wrong(kind.line, f'"{word}" is not Constant, Linear or Exponential')
+        raise kind.wrong(f'"{word}" is not Constant, Linear or Exponential')
     is_random = fields.get(truth, "usejitter", default=is_http)
     words = fields.get(items, "shouldhandle", default=None)
     on, unknown = ((), []) if words is None else statuses([value_of(it) for it in words if text_of(it)])

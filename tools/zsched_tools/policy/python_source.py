@@ -40,7 +40,7 @@ def find(text):
     try:
         tree = ast.parse(text)
     except SyntaxError as fault:
-        raise Wrong(fault.lineno or 1, f"not Python: {fault.msg}") from None
+        raise Wrong(fault.lineno or 1, f"not Python: {fault.msg}", fault.offset or None) from None
     except (RecursionError, MemoryError, ValueError):
         raise Wrong(1, "not Python, or nested too deeply") from None
     try:
@@ -67,6 +67,14 @@ class _Source:
         self.retries = {it.targets[0].id for it in ast.walk(tree) if isinstance(it, ast.Assign) and isinstance(
             it.targets[0], ast.Name) and isinstance(it.value, ast.Call) and self.called(it.value) in RETRY}
 
+    def column(self, node):
+        """The column of a node. Python counts the bytes before it."""
+        return len(self.rows[node.lineno - 1].encode()[:node.col_offset].decode()) + 1
+
+    def wrong(self, node, what):
+        """The error that a node is wrong."""
+        return Wrong(node.lineno, what, self.column(node))
+
     def called(self, node):
         """The full name of what is called or named, without a module inside of the first one: `tenacity.retry`."""
         at, names = node.func if isinstance(node, ast.Call) else node, []
@@ -84,7 +92,7 @@ class _Source:
         around = {}
 
         def found(form, name, node, read):
-            return Found(form, name, node.lineno, read, node.col_offset + 1)
+            return Found(form, name, node.lineno, read, self.column(node))
 
         for node in ast.walk(self.tree):
             name = around.get(node)
@@ -138,7 +146,7 @@ class _Source:
                      *((it.arg, it.value) for it in node.keywords)]
             if all(unit in _LENGTHS for unit, _ in units):
                 return sum((self.number(value, depth + 1) * _LENGTHS[unit] for unit, value in units), Fraction(0))
-        raise Wrong(node.lineno, f"{self.shown(node)} is not a number that can be known without running the source")
+        raise self.wrong(node, f"{self.shown(node)} is not a number that can be known without running the source")
 
     def shown(self, node):
         """The beginning of a piece of the source."""
@@ -159,9 +167,9 @@ class _Source:
     def arguments(self, call, *names):
         """The arguments of a call by their names."""
         if any(isinstance(it, ast.Starred) for it in call.args) or any(it.arg is None for it in call.keywords):
-            raise Wrong(call.lineno, f"the arguments of {self.shown(call)} can't be known without running the source")
+            raise self.wrong(call, f"the arguments of {self.shown(call)} can't be known without running the source")
         if len(call.args) > len(names):
-            raise Wrong(call.lineno, f"{self.shown(call)} has too many arguments")
+            raise self.wrong(call, f"{self.shown(call)} has too many arguments")
         return {**dict(zip(names, call.args)), **{it.arg: it.value for it in call.keywords}}
 
     def each(self, node):
@@ -177,7 +185,7 @@ class _Source:
         over = node.generators[0].iter if isinstance(node, (ast.ListComp, ast.GeneratorExp)) else None
         if isinstance(over, ast.Call) and self.called(over).split(".")[-1] == "range" and len(over.args) == 1:
             return [node.elt] * min(1000, int(self.number(over.args[0])))
-        raise Wrong(node.lineno, f"{self.shown(node)} can't be known without running the source")
+        raise self.wrong(node, f"{self.shown(node)} can't be known without running the source")
 
     def codes(self, node):
         """The statuses of a list, as texts."""
@@ -187,13 +195,13 @@ class _Source:
             return self.codes(node.args[0])
         found = [str(int(self.number(it))) for it in self.each(node)]
         if wrong := [it for it in found if codes_of(it) is None]:
-            raise Wrong(node.lineno, f"{wrong[0]} is not a status")
+            raise self.wrong(node, f"{wrong[0]} is not a status")
         return found
 
     def only(self, call, name):
         given = self.arguments(call, name)
         if list(given) != [name]:
-            raise Wrong(call.lineno, f"{self.shown(call)} needs {name}, and nothing else")
+            raise self.wrong(call, f"{self.shown(call)} needs {name}, and nothing else")
         return given[name]
 
 
@@ -237,7 +245,7 @@ class _Tenacity:
             is_count = called.endswith("attempt")
             value = source.number(source.only(node, "max_attempt_number" if is_count else "max_delay"))
             return (max(0, math.ceil(value) - 1), None) if is_count else (None, nearest(value * 1000))
-        raise Wrong(node.lineno, f"stop={source.shown(node)} can't become a schedule")
+        raise source.wrong(node, f"stop={source.shown(node)} can't become a schedule")
 
     def waits(self, node):
         """The Strategy of a call, a sum or a constant."""
@@ -246,13 +254,13 @@ class _Tenacity:
             waits, jitters = source.once(node.id, self.waits_alone)
             self.jitters += jitters
             if len(self.jitters) > MOST_JITTERS:
-                raise Wrong(node.lineno, f"these waits have more than {MOST_JITTERS} random parts")
+                raise source.wrong(node, f"these waits have more than {MOST_JITTERS} random parts")
             return waits
         if isinstance(node, ast.BinOp) and isinstance(node.op, ast.Add):
             return _sum([self.waits(node.left), self.waits(node.right)])
         name = called.removeprefix("tenacity.")
         if not isinstance(node, ast.Call) or name == called:
-            raise Wrong(node.lineno, f"wait={source.shown(node)} can't become a schedule")
+            raise source.wrong(node, f"wait={source.shown(node)} can't become a schedule")
         if name in ("wait_chain", "wait_combine"):
             items = (source.each(it.value) if isinstance(it, ast.Starred) else [it] for it in node.args)
             parts = [self.waits(item) for item in itertools.chain.from_iterable(items)] or [Strategy(constant(0))]
@@ -260,7 +268,7 @@ class _Tenacity:
                 return _sum(parts)
             return Strategy(one_by_one([it.waits for it in parts]))
         if name not in ORDERS:
-            raise Wrong(node.lineno, f"wait={source.shown(node)} can't become a schedule")
+            raise source.wrong(node, f"wait={source.shown(node)} can't become a schedule")
         given = {key: source.number(value) for key, value in source.arguments(node, *ORDERS[name].split()).items()}
         return self.known(name, given.get)
 
@@ -327,15 +335,15 @@ def _botocore(source, node):
                                           [it.value for it in node.keywords]), node)
     keys = [getattr(it, "value", None) for it in node.keys] if isinstance(node, ast.Dict) else [None]
     if not set(keys) <= {"max_attempts", "total_max_attempts", "mode"}:
-        raise Wrong(node.lineno, f"retries={source.shown(node)} can't be known without running the source")
-    given, data = dict(zip(keys, node.values)), {}
+        raise source.wrong(node, f"retries={source.shown(node)} can't be known without running the source")
+    given, data, place = dict(zip(keys, node.values)), {}, (node.lineno, 1, source.column(node))
     if "mode" in given:
-        data["retry_mode"] = Node(str(getattr(given["mode"], "value", source.shown(given["mode"]))), node.lineno)
+        data["retry_mode"] = Node(str(getattr(given["mode"], "value", source.shown(given["mode"]))), *place)
     count = given.get("total_max_attempts", given.get("max_attempts"))
     if count is not None:
         attempts = source.number(count) + ("total_max_attempts" not in given)
-        data["max_attempts"] = Node(str(attempts), node.lineno)
-    return services.aws(Node(data, node.lineno))
+        data["max_attempts"] = Node(str(attempts), *place)
+    return services.aws(Node(data, *place))
 
 
 def _count_of_adapter(source, node):
@@ -356,7 +364,7 @@ def _urllib3(source, node):
     count = default("urllib3", "total") if "total" not in given else source.option(given.pop("total"))
     retries, factor = None if count is None else int(count), source.option(given.pop("backoff_factor", None), 0, 1000)
     if min(retries or 0, factor) < 0:
-        raise Wrong(node.lineno, f"{source.shown(node)} has a number below 0")
+        raise source.wrong(node, f"{source.shown(node)} has a number below 0")
     codes, asks = given.pop("status_forcelist", None), given.pop("respect_retry_after_header", None)
     kinds = ("connect", "read", "redirect", "status", "other", "allowed_methods", "method_whitelist")
     errors = {name: source.whole(given.pop(name)) for name in kinds if name in given}
@@ -396,7 +404,7 @@ def _backoff(source, node):
     elif kind == "fibo":
         waits = fibonacci(most)
     else:
-        raise Wrong(node.lineno, f"the waits of {source.shown(wait)} can't become a schedule")
+        raise source.wrong(node, f"the waits of {source.shown(wait)} can't become a schedule")
     if limit is not None:
         left_out["max_time"] = ("it counts from the begin of the first attempt, here from its end, and the last wait "
                                 "isn't cut to the time that remains")

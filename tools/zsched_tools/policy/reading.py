@@ -8,7 +8,7 @@ import re
 import sys
 from typing import NamedTuple
 
-from zsched_tools.command import Refused, read
+from zsched_tools.command import Unread, read
 from zsched_tools.place import Cause, FaultAt, line_of
 from zsched_tools.plan.placed import key
 from zsched_tools.positions import Document
@@ -34,7 +34,11 @@ _MARKS = {"python": r"^(?:import|from) \w|^[^\S\n]*+@\w",
 
 
 class Wrong(Exception):
-    """A file can't be understood. The arguments are a line and what is wrong."""
+    """A file can't be understood: the line, what is wrong, and the column if it is known, both from 1."""
+
+    def __init__(self, line, what, column=None):
+        super().__init__(line, what, column)
+        self.line, self.what, self.column = line, str(what), column
 
 
 def plain(name):
@@ -71,29 +75,34 @@ class Node(NamedTuple):
     def is_table(self):
         return isinstance(self.data, dict)
 
+    def wrong(self, what):
+        """The error that this value is wrong."""
+        return Wrong(self.line, what, self.column)
+
 
 def read_text(path):
     """The text of a file; - is standard input."""
     data = read(path, MOST_BYTES + 1)
     if len(data) > MOST_BYTES:
-        raise Refused(f"{path}: the file has more than {MOST_BYTES} bytes; cut out the part with the policies")
+        raise Unread(path, f"the file has more than {MOST_BYTES} bytes; cut out the part with the policies")
     try:
         return data.decode("utf-8-sig")
     except UnicodeDecodeError as fault:
-        raise Wrong(data.count(b"\n", 0, fault.start) + 1, "the text is not UTF-8") from None
+        before = fault.object[:fault.start].decode().split("\n")
+        raise Wrong(len(before), "the text is not UTF-8", len(before[-1]) + 1) from None
 
 
 def _sized(data, line, column=1):
     """A table or a list with the number of its values."""
     size = 1 + sum(node.size for node in (data.values() if isinstance(data, dict) else data))
     if size > MOST_VALUES:
-        raise Wrong(line, f"the file has more than {MOST_VALUES} values")
+        raise Wrong(line, f"the file has more than {MOST_VALUES} values", column)
     return Node(Table(data) if isinstance(data, dict) else data, line, size, column)
 
 
-def _put(table, key, node, line):
+def _put(table, key, node, line, column):
     if key in table:
-        raise Wrong(line, f'the key "{key}" is on line {table[key].line} too; remove one of them')
+        raise Wrong(line, f'the key "{key}" is on line {table[key].line} too; remove one of them', column)
     table[key] = node
 
 
@@ -101,7 +110,7 @@ def read_json(text):
     try:
         json.loads(text)
     except json.JSONDecodeError as fault:
-        raise Wrong(fault.lineno, f"not JSON: {fault.msg}") from None
+        raise Wrong(fault.lineno, f"not JSON: {fault.msg}", fault.colno) from None
     except (RecursionError, ValueError):
         raise Wrong(1, f"not JSON: nested deeper than {DEEPEST}, or a number is too long") from None
     starts = [0, *(found.end() for found in re.finditer("\n", text))]
@@ -110,10 +119,9 @@ def read_json(text):
 
 def _json_node(node, starts, depth):
     """The Node of a value of a document, whose lines start at these places."""
-    line = bisect.bisect(starts, node.at)
-    column = node.at - starts[line - 1] + 1
+    line, column = _place(starts, node)
     if depth > DEEPEST:
-        raise Wrong(line, f"this is nested deeper than {DEEPEST}")
+        raise Wrong(line, f"this is nested deeper than {DEEPEST}", column)
     if node.kind == "list":
         return _sized([_json_node(it, starts, depth + 1) for it in node.items()], line, column)
     if node.kind != "object":
@@ -121,8 +129,14 @@ def _json_node(node, starts, depth):
                     column)
     table = {}
     for name, value in node.members():
-        _put(table, name.string(), _json_node(value, starts, depth + 1), bisect.bisect(starts, name.at))
+        _put(table, name.string(), _json_node(value, starts, depth + 1), *_place(starts, name))
     return _sized(table, line, column)
+
+
+def _place(starts, node):
+    """The line and the column of a value or a key of a document."""
+    line = bisect.bisect(starts, node.at)
+    return line, node.at - starts[line - 1] + 1
 
 
 def documents(text, make, deepest, most):
@@ -223,7 +237,8 @@ def read_yaml(text):
         return documents(text, _of_yaml, DEEPEST, MOST_VALUES)
     except FaultAt as fault:
         what = "; ".join(filter(None, [fault.cause.what, fault.cause.help]))
-        raise Wrong(line_of(text, fault.cause.at), what) from None
+        at = fault.cause.at
+        raise Wrong(line_of(text, at), what, at - text.rfind("\n", 0, at)) from None
 
 
 def _of_yaml(data, mark, kind):
@@ -243,20 +258,23 @@ def read_properties(text):
         elif (len(before[-1]) - len(before[-1].rstrip("\\"))) % 2:
             before[-1] = before[-1][:-1]
         else:
+            column = len(line) - len(line.lstrip()) + 1
             if not (found := _PAIR.fullmatch("".join(before))):
-                raise Wrong(number, "not a property: write NAME = VALUE")
+                raise Wrong(number, "not a property: write NAME = VALUE", column)
+            # The value of several lines is at the begin of the last one.
+            column += found.start(3) if len(before) == 1 else 0
             key, is_item, value = found.groups()
             path = re.sub(r"\\(.)", r"\1", key).split(".")[:DEEPEST]
-            rows.setdefault(key if is_item else (key, number), (path, number, []))[-1].append(value.strip())
+            rows.setdefault(key if is_item else (key, number), (path, number, column, []))[-1].append(value.strip())
             before = []
-    return unfolded([(path, Node(",".join(items), number)) for path, number, items in rows.values()])
+    return unfolded([(path, Node(",".join(items), line, 1, column)) for path, line, column, items in rows.values()])
 
 
 def _lines(text):
     """The lines of a text with their numbers, none of them too long for a pattern."""
     for number, line in enumerate(text.split("\n"), 1):
         if len(line) > LONGEST:
-            raise Wrong(number, f"this line has more than {LONGEST} characters")
+            raise Wrong(number, f"this line has more than {LONGEST} characters", LONGEST + 1)
         yield number, line
 
 
@@ -269,8 +287,8 @@ def unfolded(rows):
         if len(parts) > 1 or parts[0][0]:
             whole = next((node for names, node in parts if not names and not node.is_table()), None)
             if whole is not None:
-                line = max(node.line for _, node in parts)
-                raise Wrong(line, f'"{name}" has a value on line {whole.line}, so it has no other one, and no part')
+                last = max((node for _, node in parts), key=lambda it: it.line)
+                raise last.wrong(f'"{name}" has a value on line {whole.line}, so it has no other one, and no part')
             parts = [row for names, node in parts for row in ([(names, node)] if names else [
                 ([key], value) for key, value in node.data.items()])]
             groups[name] = unfolded(parts)
@@ -286,11 +304,12 @@ def read_ini(text):
     for number, line in _lines(text):
         if found := _SECTION.fullmatch(line):
             here = found[1].strip()
-            _put(sections, here, Node({}, number), number)
+            _put(sections, here, Node({}, number), number, 1)
         elif (found := _ASSIGNED.fullmatch(line)) and not line[0].isspace():
-            _put(sections[here].data, found[1], Node(_COMMENT.sub("", found[2]).rstrip().strip("\"'"), number), number)
+            text = _COMMENT.sub("", found[2]).rstrip().strip("\"'")
+            _put(sections[here].data, found[1], Node(text, number, 1, found.start(2) + 1), number, 1)
         elif line.strip() and line.strip()[0] not in "#;" and not line[0].isspace():
-            raise Wrong(number, "not INI: write [section], or NAME = VALUE")
+            raise Wrong(number, "not INI: write [section], or NAME = VALUE", 1)
     return Node(sections, 1)
 
 

@@ -29,7 +29,7 @@ class Source:
         self.source, self.marks, self.opened = source, marks, set()
 
     def wrong(self, node, why):
-        return Wrong(self.place(node), why)
+        return Wrong(self.line(node.at), why, self.column(node.at))
 
     def line(self, at):
         return bisect.bisect(self.starts, at)

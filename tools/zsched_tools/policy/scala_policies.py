@@ -132,7 +132,8 @@ def find(text, language="scala"):
         return list(_found(text, language))
     except Odd as odd:
         at, why = odd.args
-        raise Wrong(Reader(text, set()).place(Number(at)), f"not {language.capitalize()}: {why}") from None
+        name = {"scala": "Scala", "typescript": "TypeScript"}[language]
+        raise Reader(text, set()).wrong(Number(at), f"not {name}: {why}") from None
     except RecursionError:
         raise Wrong(1, "the source is nested too deeply") from None
 

@@ -22,7 +22,7 @@ from fractions import Fraction
 from zsched_tools.hints import TABLE
 from zsched_tools.policy.fields import (Fields, Found, default, duration, items, keys_of, made, named, number, part,
                                         plain, text_of, texts, timeouts, value_of, whole)
-from zsched_tools.policy.reading import Node, Wrong
+from zsched_tools.policy.reading import Node
 from zsched_tools.policy.spelling import Draws, exponential, growing
 from zsched_tools.settings import ERRORS, codes_of, listed_codes
 
@@ -65,7 +65,7 @@ def find(root):
             name = next(filter(None, (_name_of(it) for _, it in reversed(path[:-1]))), "istio")
             yield Found.at("istio", name, node, functools.partial(_istio, node, around))
         if keys & ACTIVITY:
-            policy = part(node, "retrypolicy", "retry", "retryoptions") or Node({}, node.line)
+            policy = part(node, "retrypolicy", "retry", "retryoptions") or node._replace(data={})
             yield Found.at("temporal", label(path, "temporal"), policy, functools.partial(_temporal, policy, node))
         elif not keys_of(around) & ACTIVITY and (keys & TEMPORAL
                                                  or (keys, key) == ({"initialinterval"}, "retrypolicy")):
@@ -105,14 +105,14 @@ def _code(node):
     text = str(node.data).upper()
     text = CODES[int(text)] if text.isdigit() and len(text) < 3 and int(text) < len(CODES) else text
     if text not in CODES:
-        raise Wrong(node.line, f"{named(node)} is not a status code of gRPC")
+        raise node.wrong(f"{named(node)} is not a status code of gRPC")
     return text
 
 
 def _grpc(policy, entry, config):
     fields, around = Fields(policy), Fields(entry)
     if around.take("retrypolicy") is None:
-        raise Wrong(policy.line, "a hedgingPolicy begins attempts beside those that run, which no schedule does")
+        raise policy.wrong("a hedgingPolicy begins attempts beside those that run, which no schedule does")
     around.take("name")
     reads = {"maxAttempts": whole, "initialBackoff": duration, "maxBackoff": duration, "backoffMultiplier": number}
     found = {name: fields.get(read, plain(name)) for name, read in reads.items()}
@@ -120,10 +120,10 @@ def _grpc(policy, entry, config):
     listed = codes is not None and isinstance(codes.data, list) and codes.data
     for name, value in {**found, "list of retryableStatusCodes": listed}.items():
         if not value:
-            raise Wrong(policy.line, f"the policy has no {name}, which gRPC needs")
+            raise policy.wrong(f"the policy has no {name}, which gRPC needs")
     count, first, most, factor = found.values()
     if count < 2:
-        raise Wrong(policy.line, "maxAttempts must be at least 2")
+        raise policy.wrong("maxAttempts must be at least 2")
     timeout, deadline = fields.get(duration, "perattemptrecvtimeout"), around.get(duration, "timeout")
     more, throttling = {"maxAttempts above 5": count} if count > 5 else {}, part(config, "retrythrottling")
     tokens, ratio = (part(throttling, name) for name in ["maxtokens", "tokenratio"])
@@ -182,7 +182,7 @@ def _envoy(policy, path):
     back_off = Fields(fields.take("retrybackoff") or usual)
     base, most = back_off.get(duration, "baseinterval"), back_off.get(duration, "maxinterval")
     if base is None:
-        raise Wrong(back_off.line, "retry_back_off has no base_interval")
+        raise back_off.wrong("retry_back_off has no base_interval")
     retries = fields.take("numretries")
     retries = part(retries, "value") if retries is not None and retries.is_table() else retries
     timeout, words = fields.get(duration, "pertrytimeout"), fields.get(texts, "retryon", default=[])
@@ -217,8 +217,8 @@ def _temporal(policy, around):
     factor = fields.get(number, "backoffcoefficient") or factor
     most = fields.get(duration, "maximuminterval") or first * times
     if factor < 1 or most < first:
-        raise Wrong(policy.line, "backoffCoefficient must be at least 1" if factor < 1
-                    else "maximumInterval must be at least initialInterval")
+        raise policy.wrong("backoffCoefficient must be at least 1" if factor < 1
+                           else "maximumInterval must be at least initialInterval")
     attempts = fields.get(whole, "maximumattempts", default=0)
     timeout, deadline = (beside.get(duration, f"{name}timeout") for name in ["starttoclose", "scheduletoclose"])
     left_out = {**fields.classes("nonretryableerrortypes"), **fields.left_out(), **beside.left_out()}
@@ -230,13 +230,13 @@ def _job(node):
     spec = part(node, "spec")
     spec = spec if text_of(part(node, "kind")) == "Job" else part(part(spec, "jobtemplate"), "spec")
     if spec is None:
-        raise Wrong(node.line, "the CronJob has no jobTemplate with a spec")
+        raise node.wrong("the CronJob has no jobTemplate with a spec")
     fields = Fields(spec)
     names = ["backoffLimit", "DefaultJobBackOff", "MaxJobBackOff"]
     retries, first, most = (default("kubernetes-job", name) for name in names)
     retries = fields.get(whole, "backofflimit", default=retries)
     if retries >= 2**31:
-        raise Wrong(fields.found["backofflimit"].line, f"backoffLimit is more than {2**31 - 1}")
+        raise fields.found["backofflimit"].wrong(f"backoffLimit is more than {2**31 - 1}")
     deadline = 1000 * fields.get(whole, "activedeadlineseconds", default=0)
     pod = part(part(fields.take("template"), "spec"), "restartpolicy")
     parallel = fields.get(whole, "parallelism", default=1)
@@ -279,7 +279,7 @@ def _retrier(node, state, others):
     most, jitter = fields.get(whole, "maxdelayseconds", default=None, least=1), fields.take("jitterstrategy")
     word = "NONE" if jitter is None else str(jitter.data)
     if word not in ("NONE", "FULL"):
-        raise Wrong(jitter.line, f"{named(jitter)} is not NONE or FULL")
+        raise jitter.wrong(f"{named(jitter)} is not NONE or FULL")
     errors = fields.get(texts, "errorequals")
     timeout = Fields(state).get(whole, "timeoutseconds", default=0)
     beside = {name: value_of(it) for name, it in state.data.items() if plain(name) in (
@@ -304,7 +304,7 @@ def aws(node):
     asked = fields.take("retrymode", "awsretrymode", "mode")
     mode = "legacy" if asked is None else asked.data.lower()
     if mode not in ("legacy", "standard", "adaptive"):
-        raise Wrong(asked.line, f"{named(asked)} is not legacy, standard or adaptive")
+        raise asked.wrong(f"{named(asked)} is not legacy, standard or adaptive")
     left_out = {"legacy": {"DynamoDB": "its own waits"}, "adaptive": {"rate": "that of a client"}}.get(mode, {})
     budget = None if mode == "legacy" else {"like": "aws", "tokens": 500, "retry": 5, "ok": 1}
     usual, most = (default("aws-standard", it) for it in ["DEFAULT_MAX_ATTEMPTS", "max_backoff"])

@@ -90,7 +90,7 @@ def sarif(check):
 
     def result(it):
         region = {"startLine": it.line, **({"startColumn": it.column} if it.column else {})}
-        uri = urllib.parse.quote(_in_checkout(it.path, top))
+        uri = urllib.parse.quote(os.fsencode(_in_checkout(it.path, top)))
         found = {"ruleId": it.rule, "ruleIndex": rules.index(it.rule), "level": "error",
                  "message": {"text": it.what()},
                  "locations": [{"physicalLocation": {"artifactLocation": {"uri": uri}, "region": region}}]}

@@ -11,7 +11,7 @@ import unicodedata
 from typing import NamedTuple
 
 from zsched_tools import command
-from zsched_tools.command import Refused
+from zsched_tools.command import Unread
 from zsched_tools.policy import libraries, limits, reading, services
 from zsched_tools.words import shown
 
@@ -111,8 +111,8 @@ def text_of(path):
     isn't UTF-8 has replacements."""
     data = command.read(path, MOST_BYTES + 1)
     if len(data) > MOST_BYTES:
-        raise Refused(f"{path}: the file has more than {MOST_BYTES} bytes, so it wasn't searched; leave_out says that "
-                      "it has no policy")
+        raise Unread(path, f"the file has more than {MOST_BYTES} bytes, so it wasn't searched; leave_out says that it "
+                           "has no policy")
     text = data.replace(b"\0", b"").decode("utf-8-sig", "replace")
     text = _ESCAPE.sub(lambda it: chr(int(it[1], 16)), text) if "\\" in text else text
     # Python reads names so.
