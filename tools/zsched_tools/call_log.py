@@ -65,6 +65,9 @@ _ENVOY = re.compile(r'\[(?P<start_time>[0-9]{4}-[^] ]*)\] "(?P<method>\S*) (?P<p
 _SPAN_CODES = ["http.response.status_code", "http.status_code", "rpc.grpc.status_code"]
 _SPAN_TEXTS = ["traceId", "spanId", "parentSpanId", "name"]
 _CLIENT = ("3", "SPAN_KIND_CLIENT")
+# The keys of OpenTelemetry's exports, and of an answer of Jaeger in its older form.
+_RESOURCES = ["resourceSpans", "resource_spans"]
+_ANSWER = {"data", "total", "limit", "offset", "errors", "structuredLogs"}
 _ERROR = ("2", "STATUS_CODE_ERROR")
 _ROWS = 5000
 
@@ -390,10 +393,10 @@ def _json_rows(path, data):
     documents = functools.partial(_json_documents, path, data, is_lines)
 
     def taken():
-        for _, document in documents():
+        for line, document in documents():
             if is_lines and isinstance(document, dict):
                 head.update((name, "") for name, _ in _pairs(document))
-            yield document
+            yield f"{path}:{line}" if is_lines else path, document
     if spans := spans_in(path, taken()):
         items, word = functools.partial(enumerate, spans, 1), "span "
     elif export := _export_of(next(documents())[1]):
@@ -445,10 +448,20 @@ def _items(value, *names):
     return found if isinstance(found, list) else []
 
 
+def _objects(value, place, *names):
+    """The objects of the list of the first of these keys, each with its place, or nothing. Another item is an error."""
+    name = next((name for name in names if name in value), None)
+    for number, item in enumerate(_items(value, *names)):
+        where = f"{place}{name}[{number}]"
+        if not isinstance(item, dict):
+            raise Refused(f"{where} is not an object")
+        yield item, f"{where}."
+
+
 def spans_in(path, documents):
     """The attempts in documents of OpenTelemetry or Jaeger, as objects with a name for each column: the spans of the
-    kind client, else those without spans below."""
-    spans = [span for document in documents for span in _spans_of(document)]
+    kind client, else those without spans below. Each document has its place before it."""
+    spans = _all_spans(documents)
     for name, span in itertools.product(_SPAN_TEXTS, spans):
         if not isinstance(span.get(name), str | None):
             raise Refused(f"{path}: a span has {name} {shown(json.dumps(span[name]))}, which is not a text")
@@ -470,16 +483,39 @@ def spans_in(path, documents):
              "end_time_unix_nano": span.get("endTimeUnixNano", ""), "status": _span_status(span)} for span in attempts]
 
 
-def _spans_of(document):
-    """The spans of a document, as OpenTelemetry's. Jaeger has them under a key "result" or, in its older form, "data".
+def _all_spans(documents):
+    """The spans of all documents. Rows among them would be attempts that no one sees, so they are an error."""
+    spans, with_spans, rows, first = [], 0, 0, None
+    for place, document in documents:
+        found = list(_spans_of(document, f"{place}: ")) if isinstance(document, dict) else []
+        spans += found
+        if found:
+            with_spans += 1
+        elif not _is_empty_export(document):
+            rows, first = rows + 1, first or place
+    if spans and rows:
+        raise Refused(f"{first}: {rows} of the lines {'has' if rows == 1 else 'have'} no spans, and {with_spans} "
+                      f"{'has' if with_spans == 1 else 'have'}; give the rows and the spans in separate files")
+    return spans
+
+
+def _is_empty_export(document):
+    """Whether a document is one of spans, as exports and answers are, though it has none."""
+    return isinstance(document, dict) and (list(document) in [[it] for it in _RESOURCES] or (
+        document.get("data") == [] and _ANSWER.issuperset(document)))
+
+
+def _spans_of(document, place):
+    """The spans of an object, as OpenTelemetry's. Jaeger has them under a key "result" or, in its older form, "data".
     """
-    for whole in (document, isinstance(document, dict) and document.get("result")):
-        for resource in _items(whole, "resourceSpans", "resource_spans"):
-            for scope in _items(resource, "scopeSpans", "scope_spans", "instrumentationLibrarySpans"):
-                yield from filter(_is_object, _items(scope, "spans"))
-    for trace in filter(_is_object, _items(document, "data")):
-        yield from (_of_jaeger({"traceID": trace.get("traceID")} | span)
-                    for span in filter(_is_object, _items(trace, "spans")))
+    for whole, head in ((document, place), (document.get("result"), f"{place}result.")):
+        for resource, at in _objects(whole, head, *_RESOURCES) if isinstance(whole, dict) else ():
+            for scope, inner in _objects(resource, at, "scopeSpans", "scope_spans", "instrumentationLibrarySpans"):
+                yield from (span for span, _ in _objects(scope, inner, "spans"))
+    if any(_items(trace, "spans") for trace in _items(document, "data")):
+        for trace, at in _objects(document, place, "data"):
+            yield from (_of_jaeger({"traceID": trace.get("traceID")} | span)
+                        for span, _ in _objects(trace, at, "spans"))
 
 
 def _is_object(value):
