@@ -47,6 +47,8 @@ PYTHON = """import tenacity as t
 def {name}():
     pass
 """
+# It makes any wait that a service asks for.
+URLLIB3 = "from urllib3 import Retry\n\nit = Retry(total=3, status_forcelist=[503])\n"
 # Of each of the kinds, eight services; those of Resilience4j are in one file.
 SPRING = "resilience4j.retry:\n  instances:\n" + "".join(
     f"    svc{number}: {{maxAttempts: 4, waitDuration: 200ms}}\n" for number in range(24, 32))
@@ -159,6 +161,17 @@ CHANGES = {
         ("unreadable", "shop/testdata/broken.yaml:2:1", None, "not YAML", None)]),
     "a setting isn't applied": (change("jobs/svc16.yml", "backoffLimit: 2", "backoffLimit: 2\n  parallelism: 3"), 1, [
         ("not-applied", "jobs/svc16.yml:1:1", "svc16", "parallel isn't applied: 3", None)]),
+    "a service may ask for any wait": (lambda top: put(top / "workers/http.py", URLLIB3), 1, [
+        ("limit", "workers/http.py:3:6", "it", "wait 20 s is not proved: no limit of each wait", None),
+        ("limit", "workers/http.py:3:6", "it", "end 1 min is not proved: no limit of the whole call", None)]),
+    "a service asks for short waits": (both(
+        lambda top: put(top / "workers/http.py", URLLIB3),
+        change(".zsched.toml", 'attempt = "2s"\n', 'attempt = "2s"\nasked = "15s"\n')), 0, []),
+    "a service asks for longer waits": (both(
+        lambda top: put(top / "workers/http.py", URLLIB3),
+        change(".zsched.toml", 'attempt = "2s"\n', 'attempt = "2s"\nasked = "25s"\n')), 1, [
+        ("limit", "workers/http.py:3:6", "it", "wait 20 s is not proved: waits of up to 25 s", None),
+        ("limit", "workers/http.py:3:6", "it", "end 1 min is not proved: a call of up to 1 min 23 s", None)]),
     "a setting is allowed": (both(
         change("jobs/svc16.yml", "backoffLimit: 2", "backoffLimit: 2\n  parallelism: 3"),
         change(".zsched.toml", 'attempt = "5s"', 'attempt = "5s"\nallow_left_out = ["parallel"]')), 0, []),
@@ -388,6 +401,10 @@ FAULTS = [
     ("[[layers]]\nnames = ['a', 'b']", "1:1", "layers needs two names or more, outermost first, and attempts or end"),
     ("[[ignore]]\nname = 'a'", "1:1", "ignore needs a reason"), ("[[ignore]]\nreason = 'a'", "1:1", "a path or a name"),
     ("leave_out = 'x'", "1:13", "leave_out is not a list"), ("leave_out = [3]", "1:13", "leave_out is not a text"),
+    ("[[limits]]\nend = 30", "2:7", 'write end = "30s", or "30ms"'), ("[[limits]]\nend = 30", "2:7", "end has no unit"),
+    ("[[limits]]\nwait = ' 1.5 '", "2:8", "wait has no unit"),
+    ("[[limits]]\nend = 'any'", "2:7", '"any" is not a duration'),
+    ("[[limits]]\nload = { clients = 3, within = 10, attempts = 3 }", "2:8", "within has no unit"),
     ("a = = 3", "1:5", "not TOML"), ("[[limits]]\nend = '99999999999d'", "2:7", "above")]
 
 

@@ -44,7 +44,8 @@ class Driver(NamedTuple):
             dict.fromkeys(map(duration, self.attempt)))
         late = " that begin at any later moment" if self.late is None else (
             f" that begin up to {duration(self.late)} late" if self.late else "")
-        asked = f" and Retry-After of up to {duration(self.asked)}" if self.asked else ""
+        length = f"up to {duration(self.asked)}" if self.asked < LAST_MOMENT else "any length"
+        asked = f" and Retry-After of {length}" if self.asked else ""
         waits = " and waits of {} to {} %".format(*self.wait) if self.wait else ""
         return f"{waits} and {of}{long}{late}{asked}" if long or late or is_named else waits + asked
 
@@ -98,7 +99,7 @@ class Bounds:
 
     def limits(self):
         """A limit of every wait and one of all waits; None if it limits nothing."""
-        most = LAST_MOMENT if self.most is not None else _LONG - 1
+        most = LAST_MOMENT - 1 if self.most is not None else _LONG - 1
         every = None if self.every is None or self.every > most else self.every
         is_open = self.is_endless or self.most is None and (self.total or 0) > most
         return every, None if every is None or is_open else self.total

@@ -12,6 +12,7 @@ from zsched_tools.command import Refused
 from zsched_tools.durations import milliseconds
 from zsched_tools.hints import TABLE
 from zsched_tools.place import Cause, FaultAt
+from zsched_tools.program import LAST_MOMENT
 from zsched_tools.words import duration
 
 # Each word for a setting, with the member of Policy that has it and what it is.
@@ -48,9 +49,10 @@ class Policy:
     """A policy of a config, or a typed one. `waits` is the schedule of its greatest waits, `draws` its text with random
     ones, or None, and `jitter` their range in a config. Times are milliseconds; None is no limit. `timeout` is the
     limit of an attempt, `deadline` that of the call. `on` has the errors that are retried, as words; none is all.
-    `asked` is the longest wait that is honoured if a service asks for it, `budget` one of retries, as in a scenario,
-    `parallel` how many run side by side, `mode` is retry or repeat, None is retry. `left_out` has each other setting by
-    its name, with its whole value, and `notes` say what of the source is not there, at its place."""
+    `asked` is the longest wait that is honoured if a service asks for it, the last moment if it is any; `budget` is one
+    of retries, as in a scenario, `parallel` how many run side by side, `mode` is retry or repeat, None is retry.
+    `left_out` has each other setting by its name, with its whole value, and `notes` say what of the source is not
+    there, at its place."""
     waits: str = ""
     draws: str | None = None
     jitter: dict | None = None
@@ -139,7 +141,7 @@ def around(on):
 def value_text(word, value):
     """The value of a setting in words: without spaces those in which it is typed."""
     if word in ("call", "attempt", "asked"):
-        return duration(value)
+        return duration(value) if value < LAST_MOMENT else "any"
     return ",".join(value) if word == "on" else value if word == "mode" else json.dumps(value)
 
 
@@ -170,6 +172,8 @@ def _read(word, text):
         if not isinstance(value, dict) or "like" not in value:
             raise ValueError(hints.said("no_budget"))
         return value
+    if text == "any":
+        return LAST_MOMENT if word == "asked" else None
     if not (found := milliseconds(text)):
         raise ValueError(hints.said("no_limit"))
     return found

@@ -78,6 +78,13 @@ def _fault(fault):
     return f"internal error, please report: {shown(repr(fault), 400)}; ZSCHED_TRACE=1 shows where"
 
 
+def _driver(policy, attempt, asked):
+    """What runs a policy: attempts take up to a time, or up to its own limit, and services ask for waits of up to
+    another, of which it makes those that its settings have."""
+    attempt = min(filter(None, (attempt, policy.timeout)), default=None)
+    return Driver(attempt and (1, attempt), asked=min(it for it in (policy.asked or 0, asked) if it is not None))
+
+
 class Check:
     """The policies of some places, and what is wrong. `files` counts what isn't searched, by the rule; `searched`
     and `with_policies` the others. `mentions` has those that mention retries and have no policy, each with its place.
@@ -169,8 +176,7 @@ class Check:
             self._add(Finding("unreadable", path, found.line, _fault(fault), found.column, found.name))
             return
         known = self.config.of(path, found.name) | self.given.limits
-        attempt = min(filter(None, (known.get("attempt"), policy.timeout)), default=None)
-        driver = Driver(attempt and (1, attempt), asked=policy.asked or 0)
+        driver = _driver(policy, known.get("attempt"), known.get("asked"))
         self.policies.append(Checked(path, found, policy, known, driver))
 
     def _add(self, finding):
@@ -266,8 +272,7 @@ class Check:
                 continue
             policies = [it.policy for it in chosen]
             made = Layers(None, types.SimpleNamespace(read=policies), [it.timeout for it in policies], ())
-            attempt = min(filter(None, (entry.attempt, policies[-1].timeout)), default=None)
-            driver = Driver(attempt and (1, attempt), asked=policies[-1].asked or 0)
+            driver = _driver(policies[-1], entry.attempt, entry.asked)
             whole = made.bounds(self.given.bounds, driver)[1]
             known = {"attempts": entry.attempts, "end": entry.end, "by_call_limit": entry.by_call_limit,
                      "by_product": entry.by_product}

@@ -57,7 +57,7 @@ A line has these keys:
   deadline_ms         the limit of the whole call, or null
   drawn               the policy with its random waits, as zsched-try takes it, or null
   retries_on          the errors that are retried, as "503", "5xx" or "UNAVAILABLE"; none is all
-  asked_ms            the longest wait that is honoured if a service asks for it, or null
+  asked_ms            the longest wait that is honoured if a service asks for it, or null; 999999999999999 is any
   budget              a budget of retries, as zsched-outage has it, or null
   parallel            the number of attempts that run side by side, or null
   jitter              null, or the range of random waits; the schedule has the greatest value of each
@@ -132,6 +132,7 @@ a finding. Limits are in .zsched.toml, beside or above all places:
   attempts = 6                      the most attempts
   end = "30s"                       of the whole call; attempts take up to `attempt`, or their own limit
   attempt = "5s"
+  asked = "30s"                     the longest wait that a service asks for, as by Retry-After
 
   [[limits]]                        of those with this path and this name, whose limits replace those before
   path = "payments/*"

@@ -3,6 +3,7 @@
 docs/FORMATS.md has its keys. Each part that fits nothing is an error, if all files of its folder are read."""
 import fnmatch
 import os
+import re
 from typing import NamedTuple
 
 from zsched_tools import command
@@ -15,10 +16,11 @@ from zsched_tools.program import LAST_MOMENT
 from zsched_tools.words import shown
 
 NAME = ".zsched.toml"
-_TIMES = ("wait", "waits", "end", "attempt")
+_TIMES = ("wait", "waits", "end", "attempt", "asked")
+_UNLESS_ANY = {"attempt": None, "asked": LAST_MOMENT}
 _LOAD = ("clients", "within", "attempts")
 _KEYS = {"limits": ("path", "name", "attempts", *_TIMES, "load", "by_call_limit", "allow_left_out"),
-         "layers": ("names", "attempts", "end", "attempt", "by_call_limit", "by_product", "allow_left_out"),
+         "layers": ("names", "attempts", "end", "attempt", "asked", "by_call_limit", "by_product", "allow_left_out"),
          "ignore": ("path", "name", "reason")}
 
 
@@ -161,6 +163,10 @@ def _whole(value, key):
 
 
 def _time(value, key):
+    if value.data == "any" and key in _UNLESS_ANY:
+        return _UNLESS_ANY[key]
+    if re.fullmatch(r"\s*+[0-9_.]++\s*+", str(value.data)):
+        _refuse(value.at, f"{key} has no unit", f'write {key} = "{value.data}s", or "{value.data}ms"')
     try:
         found = milliseconds(str(value.data))
     except ValueError as fault:
