@@ -47,6 +47,22 @@ PYTHON = """import tenacity as t
 def {name}():
     pass
 """
+# What Istio generates for each sidecar.
+SIDECAR = """virtual_hosts:
+- name: reviews
+  routes:
+  - match: {prefix: /}
+    route:
+      timeout: 0s
+      retry_policy:
+        retry_on: connect-failure,refused-stream,unavailable,cancelled,retriable-status-codes
+        num_retries: 2
+        retry_host_predicate: [{name: envoy.retry_host_predicates.previous_hosts}]
+        host_selection_retry_max_attempts: "5"
+        retriable_status_codes: [503]
+"""
+POLLY = """{"retry": {"MaxRetryAttempts": 3, "Delay": "00:00:01", "DelayGenerator": "slower"}, "hedging": {"Delay": 1}}
+"""
 # It makes any wait that a service asks for.
 URLLIB3 = "from urllib3 import Retry\n\nit = Retry(total=3, status_forcelist=[503])\n"
 # Of each of the kinds, eight services; those of Resilience4j are in one file.
@@ -161,6 +177,10 @@ CHANGES = {
         ("unreadable", "shop/testdata/broken.yaml:2:1", None, "not YAML", None)]),
     "a setting isn't applied": (change("jobs/svc16.yml", "backoffLimit: 2", "backoffLimit: 2\n  parallelism: 3"), 1, [
         ("not-applied", "jobs/svc16.yml:1:1", "svc16", "parallel isn't applied: 3", None)]),
+    "settings that add nothing": (lambda top: put(top / "edge/istio.yaml", SIDECAR), 0, []),
+    "two settings that may add": (lambda top: put(top / "polly.json", POLLY), 1, [
+        ("not-applied", "polly.json:1:11", "polly",
+         "DelayGenerator isn't applied: slower; hedging isn't applied: {Delay: 1}; no limit holds over that", None)]),
     "a service may ask for any wait": (lambda top: put(top / "workers/http.py", URLLIB3), 1, [
         ("limit", "workers/http.py:3:6", "it", "wait 20 s is not proved: no limit of each wait", None),
         ("limit", "workers/http.py:3:6", "it", "end 1 min is not proved: no limit of the whole call", None)]),

@@ -115,6 +115,8 @@ WORDS_AND_MORE = ["waits", "draws", "jitter", *MEMBERS, "left_out"]
 PLAIN = "(spaced(100) && recurs(3))"
 TENACITY = "from tenacity import *\n\n\n@retry(wait=wait_fixed(0.1), {})\ndef a(): pass\n"
 BACKOFF = "import backoff\n\n\n@backoff.on_exception(backoff.constant, Exception, interval=0.1, {})\ndef a(): pass\n"
+# Waits that aren't drawn, unlike those of a mesh, which has the settings that are tried with it.
+STEADY = "retryPolicy: {{initialInterval: 100ms, backoffCoefficient: 1, maximumAttempts: 4{}}}\n"
 ZIO = "import zio._\nobject A {{ val a = Schedule.spaced(100.millis){} && Schedule.recurs(3) }}\n"
 SAMPLES = {
     "schedule": [PLAIN, "(spaced(300) && recurs(3))"], "draws": [PLAIN, f"{PLAIN} jitter 1/4..1/2"],
@@ -131,6 +133,8 @@ SAMPLES = {
                    "stop=stop_after_attempt(4)")],
     "max_time": [BACKOFF.format("jitter=None, max_tries=4"), BACKOFF.format("jitter=None, max_tries=4, max_time=100")],
     "reraise": [TENACITY.format(f"stop=stop_after_attempt(4){more}") for more in ("", ", reraise=x")],
+    "waitForReady": [STEADY.format(""), STEADY.format(", waitForReady: true")],
+    "retry_priority": [STEADY.format(""), STEADY.format(", retry_priority: {name: x}")],
     "delayed": [ZIO.format(""), ZIO.format(".delayed(slower)")],
     "any other": [TENACITY.format(f"stop=stop_after_attempt(4){more}") for more in ("", ", sleep=x")]}
 LOG = "request_id,timestamp,duration_ms,status\n" + "".join(
@@ -186,8 +190,8 @@ def on_page(text):
 def test_a_cell_of_the_table_is_what_the_tool_does(name, tool, cell, tmp_path, capsys, programs):
     found = []
     for number, text in enumerate(SAMPLES[name]):
-        if text.startswith(("from", "import")):
-            path = tmp_path / f"{number}.{'scala' if 'zio' in text else 'py'}"
+        if text.startswith(("from", "import", "retryPolicy")):
+            path = tmp_path / f"{number}.{'scala' if 'zio' in text else 'yaml' if text[0] == 'r' else 'py'}"
             path.write_text(text)
             text = f"@{path}"
         found.append(text)

@@ -22,25 +22,36 @@ WORDS = {"call": ("deadline", "the limit of the call"), "attempt": ("timeout", "
          "mode": ("mode", "the mode")}
 _TYPED = re.compile(rf"(?<=[\s)])({'|'.join(WORDS)})(?![A-Za-z(]) *"
                     r"(\{[^{}]*\}|[^\s,{}]+(?: *, *[^\s,{}]+)*|)")
-# What only ends a call earlier or makes waits shorter; and names of what is called or written after a decision.
 ERRORS = "which errors"
-EARLIER = {ERRORS, "budget", "stop_after_delay", "max_time", "jitter", "HeartbeatSeconds", "soft_time_limit"}
+# What restricts: it can only mean fewer attempts, shorter ones or shorter waits, for example by a condition of a retry.
+# `retry_mode` is that of an AWS config that doesn't say it, of which the greatest one is taken.
+EARLIER = {ERRORS, "budget", "stop_after_delay", "max_time", "jitter", "HeartbeatSeconds", "soft_time_limit"} | set(
+    "resultPredicate retryOnResultPredicate retriable_headers retriable_request_headers retriableHeaders "
+    "retriableRequestHeaders methods maxRequestMessageBytes maxResponseMessageBytes waitForReady idle_timeout "
+    "idleTimeout max_stream_duration maxStreamDuration heartbeatTimeout HeartbeatSecondsPath TimeoutSecondsPath "
+    "CircuitBreaker circuitBreaker Timeout enabled retry_mode".split())
+# Where an attempt goes.
+WHERE = set("retry_host_predicate retryHostPredicate host_selection_retry_max_attempts hostSelectionRetryMaxAttempts "
+            "retry_priority retryPriority retryRemoteLocalities retryIgnorePreviousHosts".split())
 # The errors of HTTP as gRPC sees them, and those of gRPC as gateways show them (both from memory); 0 is no response.
 GRPC_OF_HTTP = {0: 14, 400: 13, 401: 16, 403: 7, 404: 12, 429: 14, 502: 14, 503: 14, 504: 14}
 HTTP_OF_GRPC = {1: 499, 3: 400, 4: 504, 5: 404, 6: 409, 7: 403, 8: 429, 9: 400, 10: 409, 11: 400, 12: 501, 14: 503,
                 16: 401}
 UNAVAILABLE = TABLE["grpc"].index("UNAVAILABLE")
-IDLE = set("reraise before after before_sleep retry_error_cls retry_error_callback on_backoff on_giveup on_success "
-           "raise_on_giveup logger backoff_log_level giveup_log_level eventConsumerBufferSize failAfterMaxAttempts "
-           "rate_limited_retry_back_off.reset_headers basedOnPreviousValue raise_on_status raise_on_redirect "
-           "remove_headers_on_redirect history".split()) | {"maxAttempts above 5"}
+# Where an attempt goes, and names of what is called or written after a decision.
+IDLE = WHERE | {"maxAttempts above 5"} | set(
+    "reraise before after before_sleep retry_error_cls retry_error_callback on_backoff on_giveup on_success "
+    "raise_on_giveup logger backoff_log_level giveup_log_level eventConsumerBufferSize failAfterMaxAttempts "
+    "rate_limited_retry_back_off.reset_headers basedOnPreviousValue raise_on_status raise_on_redirect "
+    "remove_headers_on_redirect history OnRetry onRetry".split())
 # What each tool applies beside the schedule, and what else can't make it pass a wrong policy: `EARLIER` can't where all
 # limits are greatest ones. Every other setting is refused, and so is every name in left_out.
 APPLIED = {"layers": {"call", "attempt", "on"},
            **dict.fromkeys(["run", "follows"], {"call", "attempt", "on", "mode"}),
            **dict.fromkeys(["bound", "outage"], {"call", "attempt", "on", "asked", "mode"}),
            "plan": {"on", "mode"}, "export": {"on"}}
-HARMLESS = {tool: IDLE | {"run": EARLIER, "layers": EARLIER, "bound": EARLIER | {"mode"}}.get(tool, set())
+# No bound reads by which rule a late `fixed` goes on.
+HARMLESS = {tool: IDLE | {"run": EARLIER, "layers": EARLIER, "bound": EARLIER | {"mode", "fixed"}}.get(tool, set())
             for tool in APPLIED}
 
 
@@ -203,17 +214,18 @@ def add_allowed(parser):
 
 
 def not_covered(allowed, policies, *tools):
-    """What checks of tools don't cover of policies, in lines: whatever a tool doesn't apply, unless it is allowed. A
-    name that no policy leaves out is rejected."""
+    """What checks of tools don't cover of policies, a line for each: whatever a tool doesn't apply and may add attempts
+    or waits, unless it is allowed. A name that no policy leaves out is rejected."""
     found = [(it, {name: value for tool in tools for name, value in it.refused(tool).items()}) for it in policies]
     names = dict.fromkeys(itertools.chain(*(refused for _, refused in found), *(it.left_out for it in policies)))
     for name in allowed:
         if name not in names:
             what = ", ".join(names) or "nothing"
             raise Refused(f"--allow-left-out {name}: no policy leaves that out; left out: {what}")
-    return [f"{policy.text}: {name} isn't applied: {shown_value(value)}; no check passes over that without "
-            f"--allow-left-out '{name}'"
-            for policy, refused in found for name, value in refused.items() if name not in allowed]
+    found = [(policy, {name: it for name, it in refused.items() if name not in allowed}) for policy, refused in found]
+    return [f"{policy.text}: " + "; ".join(f"{name} isn't applied: {shown_value(it)}" for name, it in refused.items())
+            + "; no check passes over that without" + "".join(f" --allow-left-out '{name}'" for name in refused)
+            for policy, refused in found if refused]
 
 
 def tell_left_out(tool, policy, parts):
