@@ -622,7 +622,7 @@ def c(): pass
   IntervalFunction b = IntervalFunction.ofRandomized(1, 2, 3, 4, 5);
   RetryConfig c = RetryConfig.custom().maxAttempts(50).intervalFunction(IntervalFunction.of(500)).build();
 }
-""", [(2, 24), (3, 24), (4, 73)]),
+""", [(2, 24), (3, 24), (4, 19)]),
     "a.properties": ("""resilience4j.retry.instances.a.maxAttempts=none
   resilience4j.retry.instances.b.waitDuration = soon
 resilience4j.retry.instances.c.maxAttempts=50

@@ -21,8 +21,11 @@ READERS = {"services": {"_grpc": "grpc", "_envoy": "envoy", "_envoy_others": "en
                         "_temporal": "temporal", "_job": "kubernetes", "_probe": "kubernetes",
                         "_retrier": "stepfunctions", "aws": "aws"},
            "celery_tasks": {"policy_of": "celery", "_of_calls": "celery", "OPTIONS": "celery"},
-           "libraries": {"_resilience": "resilience4j", "_spring": "spring", "_gateway": "gateway", "_polly": "polly",
-                         "FIRST": "spring", "FACTOR": "spring", "MOST": "spring", "COUNT": "spring"},
+           "java_source": {"_settings": "resilience4j", "_annotation": "spring", "_backoff": "spring",
+                           "_ERRORS": "spring"},
+           "libraries": {"resilience": "resilience4j", "spring": "spring", "_gateway": "gateway", "_polly": "polly",
+                         "FIRST": "spring", "FACTOR": "spring", "MOST": "spring", "COUNT": "spring",
+                         "RESILIENCE_ERRORS": "resilience4j", "SPRING_ERRORS": "spring"},
            "python_source": {"_Tenacity": "tenacity", "_backoff": "backoff", "_botocore": "aws", "_urllib3": "urllib3"}}
 # Other words in these: values, strategies, tables around settings, members of results, names of defaults, and what says
 # nothing of retries.
@@ -34,7 +37,7 @@ OTHERS = set("""kind percent proportional full added mixed parts like ok tokens 
     wait_incrementing wait_none wait_random random_jitter scheduletoclose starttoclose
     DEFAULT_MAX_ATTEMPTS DEFAULT_BACKOFF_MAX max_backoff DefaultJobBackOff MaxJobBackOff num_retries
     selector manualselector ttlsecondsafterfinished managedby resetheaders dict
-    httpget exec tcpsocket initialdelayseconds terminationgraceperiodseconds fields NONE eta
+    httpget exec tcpsocket initialdelayseconds terminationgraceperiodseconds fields NONE eta build ms
     """.lower().replace("_", "").split())
 
 

@@ -43,7 +43,8 @@ IDLE = WHERE | {"maxAttempts above 5"} | set(
     "reraise before after before_sleep retry_error_cls retry_error_callback on_backoff on_giveup on_success "
     "raise_on_giveup logger backoff_log_level giveup_log_level eventConsumerBufferSize failAfterMaxAttempts "
     "rate_limited_retry_back_off.reset_headers basedOnPreviousValue raise_on_status raise_on_redirect "
-    "remove_headers_on_redirect history OnRetry onRetry".split())
+    "remove_headers_on_redirect history writableStackTraceEnabled consumeResultBeforeRetryAttempt recover label "
+    "OnRetry onRetry".split())
 # What each tool applies beside the schedule, and what else can't make it pass a wrong policy: `EARLIER` can't where all
 # limits are greatest ones. Every other setting is refused, and so is every name in left_out.
 APPLIED = {"layers": {"call", "attempt", "on"},

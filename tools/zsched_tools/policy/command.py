@@ -33,8 +33,10 @@ IMPORT = """Finds the retry policies in FILE, and prints a line of JSON for each
   temporal      a RetryPolicy, or the options of an activity (JSON, YAML)
   kubernetes    a Job or a CronJob, and probes of containers (YAML)
   stepfunctions the retriers of a state machine of AWS (JSON, YAML)
-  resilience4j  resilience4j.retry (YAML, properties), or calls of IntervalFunction (Java, Kotlin; never run)
-  spring        settings of Spring Retry, or Spring Boot's retries (YAML, properties)
+  resilience4j  resilience4j.retry (YAML, properties), or RetryConfig and calls of IntervalFunction (Java and Kotlin
+                source, which is never run)
+  spring        settings of Spring Retry, or Spring Boot's retries (YAML, properties), or @Retryable, also that of
+                Spring 7 (Java and Kotlin source)
   gateway       Retry filters of Spring Cloud Gateway (YAML, properties)
   polly         RetryStrategyOptions of Polly 8 (JSON)
   aws           an AWS config (INI), AWS_MAX_ATTEMPTS and AWS_RETRY_MODE (lines of NAME=VALUE), or botocore's

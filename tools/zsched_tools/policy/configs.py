@@ -1,7 +1,7 @@
 """The policies of a config's file: each is found first, and read when it is wanted."""
 from zsched_tools import command
 from zsched_tools.command import Unread
-from zsched_tools.policy import libraries, python_source, reading, scala_policies, services
+from zsched_tools.policy import java_source, libraries, python_source, reading, scala_policies, services
 from zsched_tools.policy.reading import Wrong
 from zsched_tools.words import listed, shown
 
@@ -17,7 +17,7 @@ def _found(path):
     if kind in ("scala", "typescript"):
         return scala_policies.find(text, kind)
     if kind == "java":
-        return list(libraries.find_java(text))
+        return list(java_source.find(text))
     if kind == "ini":
         return list(services.find_aws(reading.read_ini(text)))
     reader = {"json": reading.read_json, "properties": reading.read_properties}.get(kind)

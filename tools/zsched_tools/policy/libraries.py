@@ -8,6 +8,8 @@ docs/POLICIES.md has their defaults. All this is from memory, not checked.
 - Spring Retry 2.0 (ExponentialBackOffPolicy): each wait is the one before it times the multiplier, as a double, cut to
   whole milliseconds, until one is above the cap, which all later ones are. Random: times 1 to the multiplier, at most
   the cap. max-retries (Spring 7) counts retries.
+- Spring Framework 7.0 (ExponentialBackOff): the jitter is multiplied as the wait is, in whole times of the first wait;
+  no wait is below the first one or above the cap.
 - Spring Cloud Gateway 4.1 (RetryGatewayFilterFactory): each wait is the one before it times the factor, at most
   maxBackoff; without backoff there are no waits. It retries server errors; without exceptions those of input, output
   and time.
@@ -16,11 +18,9 @@ docs/POLICIES.md has their defaults. All this is from memory, not checked.
   from 0 to 1. 2147483647 retries are no limit.
 - .NET's standard HTTP handler (Microsoft.Extensions.Http.Resilience 8): other defaults, limits of an attempt and of the
   call; it retries 408, 429, 5xx and what has no response."""
-import bisect
 import functools
 import itertools
 import math
-import re
 from fractions import Fraction
 from http import HTTPStatus
 
@@ -32,14 +32,16 @@ from zsched_tools.policy.spelling import (GREATEST, Draws, Waits, constant, deco
                                           linear)
 from zsched_tools.settings import ERRORS, codes_of, listed_codes
 
-# Of Java: a comment, a call, the name to which a statement assigns, and its number of attempts.
-_COMMENT = re.compile(r"//[^\n]*+|/\*(?:[^*]|\*(?!/))*+(?:\*/|\Z)")
-_CALL = re.compile(r"\bIntervalFunction\s*+\.\s*+(of\w*+)\s*+\(((?:[^()]++|\([^()]*+\))*)\)")
-_NAMED = re.compile(r"\b(\w++)\s*+=[^=]")
-_COUNTED = re.compile(r"\bmaxAttempts\s*+\(\s*+([0-9]++)\s*+\)")
-# The defaults of Spring Boot's keys: attempts, first wait, multiplier, cap.
+# The package of Spring 7's own @Retryable, which is not Spring Retry's.
+SPRING_7 = "org.springframework.resilience"
+# The defaults of Spring Boot's keys, and of Spring 7's @Retryable: attempts, first wait, multiplier, cap.
 SPRING = {"spring.rabbitmq": (3, 1000, 1, 10_000), "spring.kafka": (3, 1000, 0, 30_000),
-          "spring.cloud.config": (6, 1000, Fraction(11, 10), 2000), "spring.cloud.stream": (3, 1000, 2, 10_000)}
+          "spring.cloud.config": (6, 1000, Fraction(11, 10), 2000), "spring.cloud.stream": (3, 1000, 2, 10_000),
+          SPRING_7: (4, 1000, 1, 2**63 - 1)}
+# What says which errors are retried, by classes or by conditions.
+RESILIENCE_ERRORS = ("retryexceptions", "ignoreexceptions", "retryonexception", "ignoreexception", "retryonresult")
+SPRING_ERRORS = ("retryfor", "include", "value", "noretryfor", "exclude", "includes", "excludes", "predicate",
+                 "exceptionexpression")
 FIRST = ("initialinterval", "backoffinitialinterval", "initialdelay", "delay", "backoffdelay", "period")
 FACTOR = ("multiplier", "backoffmultiplier")
 MOST = ("maxinterval", "backoffmaxinterval", "maxdelay", "backoffmaxdelay", "maxperiod")
@@ -54,7 +56,7 @@ def find(document):
     retry = part(part(root, "resilience4j"), "retry")
     for group, prefix in [(part(retry, "configs"), "configs."), (part(retry, "instances", "backends"), "")]:
         for name, node in group.data.items() if group is not None and group.is_table() else ():
-            read = functools.partial(_resilience, node, part(retry, "configs"))
+            read = functools.partial(resilience, node, part(retry, "configs"))
             yield Found.at("resilience4j", prefix + name, node, read)
     for path in tables(root, (("", root),)):
         node, keys = path[-1][1], keys_of(path[-1][1])
@@ -67,10 +69,11 @@ def find(document):
             yield Found.at("polly", label(path, "polly"), node, functools.partial(_polly, node, around))
         elif _is_spring(keys, keys_of(part(node, "backoff")), names.split(".")[-1]) and not (
                 names.startswith("resilience4j") or (plain(names).endswith(".backoff") and keys_of(around) & {*COUNT})):
-            yield Found.at("spring", names or "spring", node, functools.partial(_spring, node, names))
+            yield Found.at("spring", names or "spring", node, functools.partial(spring, node, names))
 
 
-def _resilience(node, configs):
+def resilience(node, configs):
+    """The policy of settings of Resilience4j. `configs` has those that a baseConfig names."""
     tables_, base = [node], part(node, "baseconfig")
     while base is not None:
         tables_.append(configs.data.get(text_of(base)) if configs is not None and configs.is_table() else None)
@@ -93,7 +96,7 @@ def _resilience(node, configs):
     waits = functools.partial(cut, int(first), factor, after=lambda wait: math.ceil(wait * (1 + share)))
     most = None if most is None else int(most)
     draws = share and most is not None and _capped(waits, (1 - share) / (1 + share), most, retries)
-    return made(waits(most), retries, {**fields.classes("retryexceptions", "ignoreexceptions"), **fields.left_out()},
+    return made(waits(most), retries, {**fields.classes(*RESILIENCE_ERRORS), **fields.left_out()},
                 jitter, draws=draws or None)
 
 
@@ -139,7 +142,8 @@ def _is_spring(keys, inner, key):
     return "initialbackoff" not in keys and (has_wait and (keys & {*COUNT} or has_more) or is_retry)
 
 
-def _spring(node, names):
+def spring(node, names):
+    """The policy of settings of Spring, whose place has these names."""
     inner = part(node, "backoff")
     fields = Fields(node, *([inner] if inner is not None else []))
     fields.take("backoff" if inner is not None and inner.is_table() else "")
@@ -151,10 +155,14 @@ def _spring(node, names):
     most = int(fields.get(duration, *MOST, default=most, unit=1))
     factor = float(fields.get(number, *FACTOR, default=factor))
     is_random, jitter, draws = fields.get(truth, "random", "randombackoff"), None, None
+    more = int(fields.get(duration, "jitter", unit=1, default=0)) if known is SPRING[SPRING_7] else 0
     if str(getattr(fields.found.get("enabled"), "data", "")).lower() == "true":
         fields.take("enabled")
-    left_out = {**fields.classes("retryfor", "include", "value", "noretryfor", "exclude"), **fields.left_out()}
-    if factor > 0:
+    left_out = {**fields.classes(*SPRING_ERRORS), **fields.left_out()}
+    if more:
+        waits, jitter, draws = _jittered(cut(first, max(factor, 1.0), most), first, most, more)
+        left_out |= {} if jitter else {"jitter": str(more)}
+    elif factor > 0:
         most, factor = most if known or most > first else 30_000, max(factor, 1.0)
         waits = cut(first, factor, most)
         if is_random:
@@ -168,6 +176,18 @@ def _spring(node, names):
     else:
         waits, left_out = constant(first), left_out | ({"random": "true"} if is_random else {})
     return made(waits, retries, left_out, jitter, draws=draws)
+
+
+def _jittered(waits, first, most, more):
+    """Spring 7's waits, their jitter and its draws: `more`, as often as a wait has the first one, is added or taken
+    away, but no wait is below the first one or above the cap. What is drawn around a wait that grows can't be said."""
+    def at(number):
+        wait = waits.at(number)
+        return min(wait + more * (wait // max(1, first)), most)
+    if waits.steady != 1 or waits.at(1) != first:
+        return Waits(at, waits.steady), None, None
+    jitter = {"kind": "added", "up_to_ms": at(1) - first}
+    return constant(at(1)), jitter, Draws(constant(first), f"+0..{at(1) - first}ms")
 
 
 def _gateway(node):
@@ -193,52 +213,6 @@ def _gateway(node):
         raise node.wrong(f'"{unknown[0]}" is not a status or a series of HTTP')
     return made(exponential(first, factor, most) if has_waits else constant(0), retries,
                 {**classes, **fields.left_out()}, on=on)
-
-
-def find_java(text):
-    """The calls of Resilience4j's IntervalFunction in a Java or Kotlin source, each with the maxAttempts beside it."""
-    text = _COMMENT.sub(lambda it: re.sub(r"[^\n]", " ", it[0]), text)
-    ends = [it.start() for it in re.finditer("\n", text)]
-    for whole in re.finditer(r"[^;{}]+", text):
-        statement = whole[0]
-        name, count = _NAMED.search(statement), _COUNTED.search(statement)
-        for found in _CALL.finditer(statement):
-            at = whole.start() + found.start()
-            line = bisect.bisect_left(ends, at) + 1
-            arguments = found[2].split(",") if found[2].strip() else []
-            here = Node(found[1], line, 1, at - (ends[line - 2] if line > 1 else -1))
-            yield Found.at("resilience4j", name[1] if name and name.end() <= found.start() else found[1], here,
-                           functools.partial(_interval_function, here, arguments, count and count[1]))
-
-
-def _interval_function(here, arguments, count):
-    """The policy of a call, whose name and place is a node."""
-    call, values = here.data, [_java(it.strip(), here) for it in arguments]
-    wait, factor, most, share = ("waitDuration", "exponentialBackoffMultiplier", "exponentialMaxWaitDuration",
-                                 "randomizedWaitFactor")
-    names = {"of": [wait], "ofDefaults": [], "ofRandomized": [wait, share],
-             "ofExponentialBackoff": [wait, factor, most],
-             "ofExponentialRandomBackoff": [wait, factor, share, most]}.get(call, [])
-    if len(names) == 4 and len(values) == 3 and not values[2][1]:
-        names = [wait, factor, most]
-    if len(values) > len(names) or call[2:] not in ("", "Defaults") and not names:
-        raise here.wrong(f"IntervalFunction.{call} with {len(arguments)} arguments can't become a schedule")
-    table = dict(zip(names, [text for text, _ in values])) | ({"maxAttempts": count} if count else {})
-    table |= {"enableExponentialBackoff": "true"} if "Exponential" in call else {}
-    table |= {"enableRandomizedWait": "true"} if "Random" in call else {}
-    policy = _resilience(here._replace(data={name: here._replace(data=it) for name, it in table.items()}), None)
-    policy.left_out |= {} if count else {"maxAttempts": "not beside the call, so its default"}
-    return policy
-
-
-def _java(text, here):
-    """A number or a Duration of Java as a setting's text, and whether it is a double."""
-    if found := re.fullmatch(r"(?:java\.time\.)?Duration\.of(Millis|Seconds|Minutes|Hours)\(([0-9_]+)[lL]?\)", text):
-        unit = {"Millis": "ms", "Seconds": "s", "Minutes": "min", "Hours": "h"}[found[1]]
-        return found[2].replace("_", "") + unit, False
-    if found := re.fullmatch(r"([0-9_]++(?:\.[0-9_]++)?|\.[0-9_]++)([dDfFlL]?)", text):
-        return found[1].replace("_", ""), "." in text or found[2] in "dDfF" and found[2] != ""
-    raise here.wrong(f"{text} is not a number that can be known without running the source")
 
 
 def _polly(node, around):

@@ -75,6 +75,10 @@ class Node(NamedTuple):
     def is_table(self):
         return isinstance(self.data, dict)
 
+    def having(self, data):
+        """Another value at the same place."""
+        return self._replace(data=data)
+
     def wrong(self, what):
         """The error that this value is wrong."""
         return Wrong(self.line, what, self.column)

@@ -26,7 +26,8 @@ _FILTERS = re.compile(r"(?<![a-z0-9])(?:default)?filters\b"), re.compile(r"(?<![
 _PYTHON = ("tenacity", "backoff", "botocore", "aiobotocore", "celery", "urllib3", "requests")
 _SOURCES = {"python": ((*_PYTHON, "autoretry_for"), re.compile(
     rf"(?:^|[;:])[^\S\n]*+(?:from|import)\b[^\n]*\b(?:{'|'.join(_PYTHON)})\b|\bautoretry_for\b", re.M)),
-    "java": (("IntervalFunction",), re.compile(r"\bIntervalFunction\b")),
+    "java": (("RetryConfig", "IntervalFunction", "Retryable"), re.compile(
+        r"\b(?:RetryConfig|IntervalFunction|Retryable)\b")),
     "typescript": (("effect",), re.compile(r"[\"']effect(?:/Schedule)?[\"']")),
     "scala": (("zio", "retry"), re.compile(
         r"(?:^|;)[^\S\n]*+import\b[^;\n]*\b(?:zio|retry)\b|\bzio\.Schedule\.", re.M))}
