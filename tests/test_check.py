@@ -16,7 +16,7 @@ from zsched_tools import bounding
 from zsched_tools.bounding import Driver
 from zsched_tools.drawn import Policy
 from zsched_tools.outage import command as outage
-from zsched_tools.policy import checking, configs, limits, reading, saying, services, walking
+from zsched_tools.policy import checking, configs, limits, profiles, reading, saying, services, walking
 from zsched_tools.policy.command import main
 from zsched_tools.trying import command as trying
 
@@ -435,13 +435,125 @@ def test_a_file_of_limits_that_is_wrong_is_an_error_at_its_place(text, place, sa
     assert status == 2 and errors.startswith(f"zsched-policy: .zsched.toml:{place}: ") and said in errors, errors
 
 
+@pytest.mark.parametrize("program, file, text", rows("foreign.jsonl"), ids=[it[0] for it in rows("foreign.jsonl")])
+def test_a_config_of_another_program_has_no_policy(program, file, text, tmp_path):
+    """No reader takes it for that of its own program, whose units and defaults are others."""
+    (tmp_path / file).write_text(text)
+    assert [(it.form, it.name) for it in configs.policies_of(str(tmp_path / file))] == []
+
+
+# What makes each a policy: the name of a file, a place, or the group of an API; and a change with which there is none.
+PLACES = [
+    ("application.yaml", "app.retry: {delay: 100, max-attempts: 3}", "spring", "app", "micronaut: {}\napp"),
+    ("bootstrap-dev.properties", "a.retry.max-attempts=3\n", "spring", "a.retry", "quarkus.a.retry"),
+    ("a.json", '{"spring": {"a": {"retry": {"maxAttempts": 3}}}}', "spring", "spring", "autumn"),
+    ("a.yaml", "spring.cloud.gateway: {default-filters: [Retry=3]}", "gateway", "gateway", "filters"),
+    ("a.yaml", "routes: [{id: a, filters: [Retry=3]}]", "gateway", "routes", "rules"),
+    ("a.yaml", "apiVersion: batch/v1\nkind: Job\nspec: {}", "kubernetes", "batch/v1", "batch.volcano.sh/v1alpha1"),
+    ("a.yaml", "apiVersion: apps/v1\nkind: Deployment\nspec: {template: {spec: {containers: [{livenessProbe: {}}]}}}",
+     "kubernetes", "apps/v1", "serving.knative.dev/v1"),
+    ("a.yaml", "apiVersion: v1\nkind: List\nitems: [{apiVersion: batch/v1, kind: Job, spec: {}}]", "kubernetes",
+     "batch/v1", "kueue.x-k8s.io/v1"),
+    ("a.yaml", "apiVersion: v1\nkind: Pod\nspec: {containers: [{livenessProbe: {}}]}", "kubernetes", "containers",
+     "sidecars"),
+    ("a.yaml", "apiVersion: networking.istio.io/v1\nkind: VirtualService\nspec: {http: [{retries: {attempts: 3}}]}",
+     "istio", "networking.istio.io", "gateway.solo.io"),
+    ("a.yaml", "http: [{retries: {attempts: 3}}]", "istio", "attempts", "numRetries: 3, attempts"),
+    ("a.yaml", "route: {retry_policy: {num_retries: 3}}", "envoy", "route:", "mapping:"),
+    ("a.yaml", "retry_policy: {num_retries: 3}", "envoy", "retry_policy", "prefix: /\nretry_policy"),
+    ("a.yaml", "a: {retryPolicy: {maximumAttempts: 3}}", "temporal", "a:", "apiVersion: a.dev/v1\nkind: A\na:"),
+    ("a.yaml", "resilience4j.retry.instances.a: {maxRetryAttempts: 3}", "resilience4j", "resilience4j",
+     "apiVersion: a.dev/v1\nkind: A\nresilience4j")]
+
+
+@pytest.mark.parametrize("file, text, form, right, wrong", PLACES, ids=[f"{it[2]} {it[3]}" for it in PLACES])
+def test_a_policy_is_what_its_file_says_it_is(file, text, form, right, wrong, tmp_path):
+    found = []
+    for changed in (text, text.replace(right, wrong)):
+        (tmp_path / file).write_text(changed)
+        found.append([it.form for it in configs.policies_of(str(tmp_path / file))])
+    assert found == [[form], []]
+
+
+# An expression of a document, one of the profile that is asked for, and whether the document counts there.
+EXPRESSIONS = [
+    (None, "prod", True), ("prod", None, False), ("prod", "prod", True), ("prod", "dev", False),
+    ("prod", "prod & cloud", True), ("prod & cloud", "prod", False), ("cloud & prod", "prod & cloud & eu", True),
+    ("!dev", "prod", True), ("!dev", "dev", False), ("!dev", "!dev", True), ("prod", "!dev", False),
+    ("!dev", None, False), ("prod | dev", "dev", True), ("prod,dev", "test", False), ("prod", "prod,dev", False),
+    ("prod,dev,test", "prod | dev", True), ("(prod | dev) & eu", "prod & eu", False),
+    ("prod", "(prod | dev) & eu", False), ("(prod | dev) & eu", "(prod | dev) & eu", True)]
+
+
+@pytest.mark.parametrize("document, profile, wanted", EXPRESSIONS)
+def test_a_document_counts_in_a_profile_in_which_it_is_active(document, profile, wanted):
+    assert profiles.Layer(None, document).counts(profile) == wanted
+
+
+@pytest.mark.parametrize("text", [
+    "spring.config.activate.on-profile: prod", "spring: {config: {activate.onProfile: [prod]}}",
+    "spring.profiles: prod", "spring.profiles: prod\nspring.profiles.include: more",
+    "spring: {profiles: prod, profiles.active: more}",
+    "spring: {profiles: prod}\nspring.config.import: more", "spring.config.activate.on-cloud-platform: prod"])
+def test_a_document_says_its_profile_in_these_ways(text, tmp_path):
+    (tmp_path / "a.yaml").write_text(f"a.retry: {{maxAttempts: 3}}\n---\n{text}\nspring.a.retry: {{maxAttempts: 3}}\n")
+    assert [it.name for it in configs.policies_of(str(tmp_path / "a.yaml"))] == ["spring.a.retry (prod)"]
+
+
+def test_a_policy_of_a_profile_is_checked_at_its_own_place(programs, tmp_path, monkeypatch):
+    monkeypatch.chdir(tmp_path)
+    before = "resilience4j.retry.instances.inventory: {max-attempts: 3, wait-duration: 2s}\n"
+    put(tmp_path / "application.yaml", before)
+    put(tmp_path / "application-prod.yaml", "# More.\nresilience4j.retry.instances.inventory.max-attempts: 7\n")
+    put(tmp_path / "many.yaml", before + "---\nspring.config.activate.on-profile: prod\n" + before.replace("3", "9"))
+    output = run_here(main, ["zsched-policy", "check", "--json", "--require-waits", "4s", "--allow-unproved"])[1]
+    assert [it[1:3] for it in found_in(output)] == [("application-prod.yaml:2:54", "inventory (prod)"),
+                                                    ("many.yaml:4:41", "inventory (prod)")]
+    assert json.loads(output)["files"]["searched"] == 3 and len(json.loads(output)["policies"]) == 4
+
+
+def test_lines_that_part_documents_of_properties_part_no_settings(tmp_path):
+    put(tmp_path / "a.properties", "resilience4j.retry.configs.default.max-attempts=3\n#---\n"
+        "resilience4j.retry.instances.a.base-config=default\n")
+    assert [it.read().waits for it in configs.policies_of(str(tmp_path / "a.properties"))] == [
+        "(spaced(500) && recurs(2))"] * 2
+
+
+def test_profiles_with_more_values_than_a_file_may_have_are_refused(tmp_path, monkeypatch):
+    put(tmp_path / "application.yaml", "a: 1\n" + "".join(
+        f"---\nspring.profiles: p{number}\na: {number}\n" for number in range(9)))
+    assert configs.policies_of(str(tmp_path / "application.yaml")) == []
+    # The base has 2 values and each profile 4: three times 38 are more than 100.
+    monkeypatch.setattr(profiles, "_MOST", 100)
+    with pytest.raises(configs.Unread, match="application.yaml:9:1: the file has more than 100 values with those of"):
+        configs.policies_of(str(tmp_path / "application.yaml"))
+
+
+def test_a_file_beside_one_of_a_profile_is_named_if_it_is_wrong(tmp_path, monkeypatch):
+    monkeypatch.chdir(tmp_path)
+    put(tmp_path / "application.yaml", "a: [\n")
+    put(tmp_path / "application-prod.yaml", "resilience4j.retry.instances.a: {max-attempts: 7}\n")
+    with pytest.raises(configs.Unread, match="^application-prod.yaml:1: application.yaml:2:1: not YAML: expected"):
+        configs.policies_of("application-prod.yaml")
+
+
+def test_a_file_beside_one_of_a_profile_is_not_read_by_a_link(tmp_path):
+    put(tmp_path / "application-prod.yaml", "resilience4j.retry.instances.a.max-attempts: 7\n")
+    put(tmp_path / "other.yaml", "resilience4j.retry.instances.a.wait-duration: 9s\n")
+    (tmp_path / "application.yaml").symlink_to("other.yaml")
+    found, = configs.policies_of(str(tmp_path / "application-prod.yaml"))
+    assert (found.name, configs.policy_of(found).waits) == ("a (prod)", "(spaced(500) && recurs(6))")
+
+
 def samples():
-    """Each file of a case, each of settings.jsonl, and one of a filter without another key."""
+    """Each file of a case, each of settings.jsonl, and three with no key of retries."""
     for path in sorted(unpacked("zsched-policy").glob("*/*.*")):
         yield path.name, path.read_text(errors="replace")
     for number, (_, _, _, ending, text, one, _) in enumerate(rows("settings.jsonl")):
         yield f"{number}.{ending}", one.join(text.rsplit("@", 1))
     yield "gateway.yaml", "routes: [{id: pay, filters: [Retry=3]}]\n"
+    yield "application-prod.yaml", "spring.kafka.retry.topic.delay: 9s\n"
+    yield "virtual.yaml", "kind: VirtualService\nspec: {http: [{route: [{destination: {host: a}}]}]}\n"
 
 
 def test_each_file_in_which_a_policy_is_found_looks_as_if_it_had_one(tmp_path):
@@ -458,7 +570,7 @@ def test_each_file_in_which_a_policy_is_found_looks_as_if_it_had_one(tmp_path):
     assert missed == [] and found > 200 and marked < found + 30
 
 
-@pytest.mark.parametrize("name", ["_NAMES", "_JOB", "_FILTERS", *walking._SOURCES])
+@pytest.mark.parametrize("name", ["_NAMES", "_KIND", "_FILTERS", *walking._SOURCES])
 def test_each_mark_is_needed(name, tmp_path, monkeypatch):
     """Without it a file with a policy is missed."""
     never = re.compile("(?!)")

@@ -103,8 +103,8 @@ def around(begin, inner, end):
 NESTINGS = {
     "json": [(around("[", "1", "]"), 400), (around('{"a":', "1", "}"), 400), (around('{"retryPolicy":', "1", "}"), 400),
              (lambda n: json.dumps({f"k{it}": {"maximumAttempts": 3} for it in range(n)}), 400),
-             (lambda n: json.dumps([{"retryPolicy": {"numRetries": 1}}] * n), 400),
-             (lambda n: json.dumps({f"r{it}": {"retryPolicy": {"numRetries": 1}} for it in range(n)}), 1600),
+             (lambda n: json.dumps([{"route": {"retryPolicy": {"numRetries": 1}}}] * n), 400),
+             (lambda n: json.dumps({"route": {f"r{it}": {"retryPolicy": {"numRetries": 1}} for it in range(n)}}), 1600),
              (lambda n: json.dumps({"retryPolicy": {"maximumAttempts": 3} | {f"k{it}": 1 for it in range(n)}}), 4000),
              (lambda n: json.dumps({"methodConfig": [{"name": [{"service": f"s{it}"}], "retryPolicy": {
                  "maxAttempts": 3, "initialBackoff": "1s", "maxBackoff": "9s", "backoffMultiplier": 2,

@@ -32,6 +32,12 @@ HIDDEN = {
     "the SDKs' config": (".aws/config", b"[profile bad]\nmax_attempts = 50\nretry_mode = standard\n", "50 attempts"),
     "an adapter of requests": (
         "bad.py", b"from requests.adapters import HTTPAdapter\n\nbad = HTTPAdapter(max_retries=50)\n", "51 attempts"),
+    "a builder in Java": (
+        "Bad.java", b"class Bad { RetryConfig bad = RetryConfig.custom().maxAttempts(50).build(); }\n", "50 attempts"),
+    "a profile of Spring Boot": (
+        "application.yaml", b"resilience4j.retry.instances.bad: {max-attempts: 3}\n---\n"
+        b"spring.config.activate.on-profile: prod\nresilience4j.retry.instances.bad: {max-attempts: 50}\n",
+        "50 attempts"),
     "an adapter of an unknown number": (
         "bad.py", b"from requests.adapters import HTTPAdapter\n\n\ndef bad(n):\n    return HTTPAdapter(1, 1, n)\n",
         "n is not a number that can be known")}
@@ -92,6 +98,7 @@ MENTIONS = [
     ("a.xml", "<property name=\"maxAttempts\" value=\"3\"/>\n", 1, "maxAttempts"),
     ("a.yaml", "data:\n  application.yaml: |\n    resilience4j.retry:\n      instances: {a: {maxAttempts: 50}}\n", 3,
      "retry"),
+    ("workflow.yaml", "main:\n  retry: {max_retries: 50, backoff: {initial_delay: 2, max_delay: 60}}\n", 2, "retry"),
     ("a.toml", "[http]\nmax-retries = 5\n", 2, "max-retries"),
     ("a.json", '{"retry_policy": {"n": 3}}\n', 1, "retry_policy")]
 # Files that have such words, and no policy.

@@ -28,15 +28,15 @@ IMPORT = """Finds the retry policies in FILE, and prints a line of JSON for each
   zsched-policy import service.yaml
 
   grpc          a gRPC service config (JSON): methodConfig with a retryPolicy
-  envoy         a route's or a virtual host's retry_policy (YAML, JSON)
-  istio         the retries of a VirtualService (YAML)
+  envoy         a route's or a virtual host's retry_policy (YAML, JSON), also in an EnvoyFilter of Istio
+  istio         the retries of a VirtualService, and those that a route without them has (YAML)
   temporal      a RetryPolicy, or the options of an activity (JSON, YAML)
   kubernetes    a Job or a CronJob, and probes of containers (YAML)
   stepfunctions the retriers of a state machine of AWS (JSON, YAML)
   resilience4j  resilience4j.retry (YAML, properties), or RetryConfig and calls of IntervalFunction (Java and Kotlin
                 source, which is never run)
-  spring        settings of Spring Retry, or Spring Boot's retries (YAML, properties), or @Retryable, also that of
-                Spring 7 (Java and Kotlin source)
+  spring        settings of Spring Retry, or Spring Boot's retries (YAML, properties, JSON), below spring. or in a file
+                application* or bootstrap*; or @Retryable, also that of Spring 7 (Java and Kotlin source)
   gateway       Retry filters of Spring Cloud Gateway (YAML, properties)
   polly         RetryStrategyOptions of Polly 8 (JSON)
   aws           an AWS config (INI), AWS_MAX_ATTEMPTS and AWS_RETRY_MODE (lines of NAME=VALUE), or botocore's
@@ -49,6 +49,9 @@ IMPORT = """Finds the retry policies in FILE, and prints a line of JSON for each
   effect        schedules of Effect (TypeScript source)
   cats          policies of cats-retry (Scala source)
 
+A profile of Spring Boot that changes a policy or adds one, in a document or in application-PROFILE.yaml, is merged
+over the settings before it, and named: inventory (prod).
+A document with apiVersion and kind has only policies of its own API, so those of Gloo aren't taken for Istio's.
 The end of the file's name says what it is (.json, .yaml, .yml, .properties, .py, .java, .kt, .scala, .ts, .ini,
 .env), or else its text does.
 A line has these keys:

@@ -1,7 +1,7 @@
 """The policies of a config's file: each is found first, and read when it is wanted."""
 from zsched_tools import command
 from zsched_tools.command import Unread
-from zsched_tools.policy import java_source, libraries, python_source, reading, scala_policies, services
+from zsched_tools.policy import java_source, libraries, profiles, python_source, reading, scala_policies, services
 from zsched_tools.policy.reading import Wrong
 from zsched_tools.words import listed, shown
 
@@ -20,9 +20,16 @@ def _found(path):
         return list(java_source.find(text))
     if kind == "ini":
         return list(services.find_aws(reading.read_ini(text)))
-    reader = {"json": reading.read_json, "properties": reading.read_properties}.get(kind)
-    documents = reading.read_yaml(text) if reader is None else [reader(text)]
-    return [it for document in documents for finder in (services.find, libraries.find) for it in finder(document)]
+    return profiles.found(path, _trees(path, text), lambda other: _trees(other, reading.read_text(other)),
+                          lambda tree: [*services.find(tree), *libraries.find(tree, path)])
+
+
+def _trees(path, text):
+    """The trees of a config's documents."""
+    kind = reading.kind_of(path, text)
+    if kind == "json":
+        return [reading.read_json(text)]
+    return (reading.read_properties if kind == "properties" else reading.read_yaml)(text)
 
 
 def policies_of(path):

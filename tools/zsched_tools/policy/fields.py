@@ -73,7 +73,7 @@ def part(node, *names):
 
 def timeouts(node):
     """The settings of a table whose names end with timeout."""
-    return Fields(node._replace(data=_table(node).timeouts))
+    return Fields(node.having(_table(node).timeouts))
 
 
 def value_of(node):

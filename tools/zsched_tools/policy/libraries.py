@@ -21,13 +21,15 @@ docs/POLICIES.md has their defaults. All this is from memory, not checked.
 import functools
 import itertools
 import math
+import os
+import re
 from fractions import Fraction
 from http import HTTPStatus
 
 from zsched_tools.policy.fields import (DAY, Fields, Found, default, duration, items, keys_of, made, named, number,
                                         part, plain, text_of, texts, truth, value_of, whole)
 from zsched_tools.policy.reading import Node, unfolded
-from zsched_tools.policy.services import label, tables
+from zsched_tools.policy.services import document_of, label, tables
 from zsched_tools.policy.spelling import (GREATEST, Draws, Waits, constant, decorrelated, exponential, growing,
                                           linear)
 from zsched_tools.settings import ERRORS, codes_of, listed_codes
@@ -46,30 +48,58 @@ FIRST = ("initialinterval", "backoffinitialinterval", "initialdelay", "delay", "
 FACTOR = ("multiplier", "backoffmultiplier")
 MOST = ("maxinterval", "backoffmaxinterval", "maxdelay", "backoffmaxdelay", "maxperiod")
 COUNT = ("maxattempts", "attempts", "maxretries")
+# A file of Spring Boot's settings, and the keys of other frameworks that name their files so.
+_SPRING_FILE = re.compile(r"(?:application|bootstrap)(?:[-._].*)?\.(?:ya?ml|properties|json)", re.S)
+OTHERS = {"micronaut", "quarkus", "smallrye", "mp"}
 
 
-def find(document):
+def _has_settings_of_spring(path, root):
+    """Whether all settings of a file may be Spring's, by its name; other frameworks that take this name have keys."""
+    firsts = {key.partition(".")[0] for key in root.data} if root.is_table() else set()
+    return _SPRING_FILE.fullmatch(os.path.basename(path)) is not None and not firsts & OTHERS
+
+
+def find(document, path):
+    """The policies of a document of a file. Spring's are below `spring.`, or in a file of Spring Boot's settings."""
     root = document
     if root.is_table():
         root = unfolded([(key.split(".") if key.startswith(("resilience4j.", "spring.")) else [key], node)
                          for key, node in root.data.items()])
+    is_spring = _has_settings_of_spring(path, root)
+    yield from _find_resilience(root) if document_of(root) is None else ()
+    for path, kind in tables(root, (("", root),)):
+        if kind is not None:
+            continue
+        node, keys, names = path[-1][1], keys_of(path[-1][1]), ".".join(str(key) for key, _ in path[1:])
+        around = path[-2][1] if len(path) > 1 else Node({}, 1)
+        yield from _find_gateway(path, names)
+        if names.startswith("resilience4j"):
+            continue
+        if "maxretryattempts" in keys or (keys & {"backofftype", "usejitter"} and keys & {"delay", "maxdelay"}):
+            yield Found.at("polly", label(path, "polly"), node, functools.partial(_polly, node, around))
+        elif (is_spring or names.startswith("spring.")) and _is_spring(
+                keys, keys_of(part(node, "backoff")), names.split(".")[-1]) and not (
+                    plain(names).endswith(".backoff") and keys_of(around) & {*COUNT}):
+            yield Found.at("spring", names or "spring", node, functools.partial(spring, node, names))
+
+
+def _find_resilience(root):
     retry = part(part(root, "resilience4j"), "retry")
     for group, prefix in [(part(retry, "configs"), "configs."), (part(retry, "instances", "backends"), "")]:
         for name, node in group.data.items() if group is not None and group.is_table() else ():
             read = functools.partial(resilience, node, part(retry, "configs"))
             yield Found.at("resilience4j", prefix + name, node, read)
-    for path in tables(root, (("", root),)):
-        node, keys = path[-1][1], keys_of(path[-1][1])
-        names, around = ".".join(str(key) for key, _ in path[1:]), path[-2][1] if len(path) > 1 else Node({}, 1)
-        filters = part(node, "filters", "defaultfilters")
-        for it in filters.data if filters is not None and isinstance(filters.data, list) else ():
-            if (text_of(part(it, "name")) or str(text_of(it)).partition("=")[0].strip()) == "Retry":
-                yield Found.at("gateway", text_of(part(node, "id")) or "gateway", it, functools.partial(_gateway, it))
-        if "maxretryattempts" in keys or (keys & {"backofftype", "usejitter"} and keys & {"delay", "maxdelay"}):
-            yield Found.at("polly", label(path, "polly"), node, functools.partial(_polly, node, around))
-        elif _is_spring(keys, keys_of(part(node, "backoff")), names.split(".")[-1]) and not (
-                names.startswith("resilience4j") or (plain(names).endswith(".backoff") and keys_of(around) & {*COUNT})):
-            yield Found.at("spring", names or "spring", node, functools.partial(spring, node, names))
+
+
+def _find_gateway(path, names):
+    """The filters of a route of Spring Cloud Gateway, and those of all routes."""
+    node, is_route = path[-1][1], len(path) > 2 and plain(str(path[-2][0])) == "routes"
+    if not (is_route or names.startswith("spring.cloud.gateway")):
+        return
+    filters = part(node, "filters", "defaultfilters")
+    for it in filters.data if filters is not None and isinstance(filters.data, list) else ():
+        if (text_of(part(it, "name")) or str(text_of(it)).partition("=")[0].strip()) == "Retry":
+            yield Found.at("gateway", text_of(part(node, "id")) or "gateway", it, functools.partial(_gateway, it))
 
 
 def resilience(node, configs):
@@ -194,9 +224,9 @@ def _gateway(node):
     """A filter: a table of its name and arguments, or their text, as Retry=3,BAD_GATEWAY,GET,10ms,50ms,2,false."""
     names = ["retries", "statuses", "methods", "firstBackoff", "maxBackoff", "factor", "basedOnPreviousValue"]
     given = zip(names, (text_of(node) or "").partition("=")[2].split(","))
-    short = {name: node._replace(data=value.strip()) for name, value in given if value.strip()}
-    args = part(node, "args") if node.is_table() else node._replace(data=short)
-    args = args if args is not None and args.is_table() else node._replace(data={})
+    short = {name: node.having(value.strip()) for name, value in given if value.strip()}
+    args = part(node, "args") if node.is_table() else node.having(short)
+    args = args if args is not None and args.is_table() else node.having({})
     back_off = part(args, "backoff")
     fields = Fields(args, *([back_off] if back_off is not None else []))
     fields.take("backoff")

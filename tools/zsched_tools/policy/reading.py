@@ -252,10 +252,14 @@ def _of_yaml(data, mark, kind):
 
 
 def read_properties(text):
-    """The tree of a Java properties file. A dot in a key leads one level down; the items of a list, as name[0], are a
-    text with commas."""
-    rows, before = {}, []
+    """The trees of the documents of a Java properties file, which lines of #--- part. A dot in a key leads one level
+    down; the items of a list, as name[0], are a text with commas."""
+    parts, rows, before = [], {}, []
     for number, line in _lines(text):
+        if not before and line.rstrip() in ("#---", "!---"):
+            parts.append(rows)
+            rows = {}
+            continue
         before.append(line.strip())
         if not before[0] or before[0][0] in "#!":
             before = []
@@ -271,7 +275,8 @@ def read_properties(text):
             path = re.sub(r"\\(.)", r"\1", key).split(".")[:DEEPEST]
             rows.setdefault(key if is_item else (key, number), (path, number, column, []))[-1].append(value.strip())
             before = []
-    return unfolded([(path, Node(",".join(items), line, 1, column)) for path, line, column, items in rows.values()])
+    return [unfolded([(path, Node(",".join(items), line, 1, column)) for path, line, column, items in it.values()])
+            for it in (*parts, rows)]
 
 
 def _lines(text):

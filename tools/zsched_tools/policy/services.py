@@ -39,44 +39,102 @@ TEMPORAL = {"backoffcoefficient", "maximumattempts", "maximuminterval", "nonretr
 ACTIVITY = {"starttoclosetimeout", "scheduletoclosetimeout"}
 PROBES = ["livenessprobe", "readinessprobe", "startupprobe"]
 FULL = {"kind": "full"}
+# The keys around a retry_policy of Envoy, and around a container; groups of APIs of Kubernetes that have containers.
+ROUTES = {"route", "routes", "routeconfig", "typedperfilterconfig", "virtualhosts"}
+BARE = {"retrypolicy", "name", "match", "domains", "cluster", "timeout", "idletimeout", "hedgepolicy"}
+CONTAINERS = {"containers", "initcontainers", "ephemeralcontainers"}
+WORKLOADS = {"", "apps", "batch", "extensions"}
+# The documents of Istio that have policies, as `tables` has them.
+ISTIO = "networking.istio.io", "VirtualService"
+FILTER = "networking.istio.io", "EnvoyFilter"
 
 
-def tables(node, path=()):
-    """Each table of a tree, as the keys and tables around it and its own, outermost first."""
+def document_of(node):
+    """The group of the API and the kind of a table that is a document of Kubernetes, or None."""
+    version, kind = (text_of(part(node, name)) for name in ("apiversion", "kind"))
+    return (version.rpartition("/")[0], kind) if version and kind else None
+
+
+def tables(node, path=(), document=None):
+    """Each table of a tree, as the keys and tables around it and its own, outermost first; and the group and kind of
+    the nearest document of Kubernetes that it is a part of, or None."""
     if node.is_table():
-        yield path
+        document = document_of(node) or document
+        yield path, document
     items = node.data.items() if node.is_table() else enumerate(node.data) if isinstance(node.data, list) else ()
     for key, value in items:
-        yield from tables(value, (*path, (key, value)))
+        yield from tables(value, (*path, (key, value)), document)
 
 
 def find(root):
-    for path in tables(root, (("", root),)):
-        node, keys, key = path[-1][1], keys_of(path[-1][1]), plain(str(path[-1][0]))
-        around = path[-2][1] if len(path) > 1 else Node({}, 1)
-        entries, policy = part(node, "methodconfig"), part(node, "retrypolicy")
-        for entry in entries.data if entries is not None and isinstance(entries.data, list) else []:
-            if (found := part(entry, "retrypolicy", "hedgingpolicy")) is not None:
-                read = functools.partial(_grpc, found, entry, node)
-                yield from (Found.at("grpc", name, found, read) for name in _methods(entry))
-        if keys_of(policy) & ENVOY:
-            yield Found.at("envoy", _envoy_name(path), policy, functools.partial(_envoy, policy, path))
-        if key == "retries" and keys & {"attempts", "pertrytimeout", "retryon", "backoff"}:
-            name = next(filter(None, (_name_of(it) for _, it in reversed(path[:-1]))), "istio")
-            yield Found.at("istio", name, node, functools.partial(_istio, node, around))
-        if keys & ACTIVITY:
-            policy = part(node, "retrypolicy", "retry", "retryoptions") or node._replace(data={})
-            yield Found.at("temporal", label(path, "temporal"), policy, functools.partial(_temporal, policy, node))
-        elif not keys_of(around) & ACTIVITY and (keys & TEMPORAL
-                                                 or (keys, key) == ({"initialinterval"}, "retrypolicy")):
-            yield Found.at("temporal", label(path, "temporal"), node, functools.partial(_temporal, node, around))
-        yield from _retriers(node, path)
+    """The policies of a tree. A document of Kubernetes has none but those of its own kind."""
+    for path, document in tables(root, (("", root),)):
+        if document is None:
+            yield from _find_grpc(path[-1][1])
+        if _is_envoy(path, document):
+            policy, limit = part(path[-1][1], "retrypolicy"), default("envoy", "timeout") if document is None else 0
+            read = functools.partial(_envoy, policy, path, limit)
+            yield Found.at("envoy", _envoy_name(path), policy, read)
+        if document in (None, ISTIO):
+            yield from _find_istio(path)
+        if document is None:
+            yield from _find_temporal(path)
+            yield from _retriers(path[-1][1], path)
+        yield from _find_kubernetes(path, document)
+
+
+def _find_grpc(node):
+    entries = part(node, "methodconfig")
+    for entry in entries.data if entries is not None and isinstance(entries.data, list) else []:
+        if (found := part(entry, "retrypolicy", "hedgingpolicy")) is not None:
+            read = functools.partial(_grpc, found, entry, node)
+            yield from (Found.at("grpc", name, found, read) for name in _methods(entry))
+
+
+def _is_envoy(path, document):
+    """Whether a table has a retry_policy of Envoy: a route, a virtual host, or a part of an EnvoyFilter. A file may be
+    such a table, if it has no key that isn't Envoy's."""
+    node = path[-1][1]
+    if document not in (None, FILTER) or not keys_of(part(node, "retrypolicy")) & ENVOY:
+        return False
+    places = ROUTES if document is None else ROUTES | {"value"}
+    return any(plain(str(key)) in places for key, _ in path) or len(path) == 1 and keys_of(node) <= BARE
+
+
+def _find_istio(path):
+    """The policy of a table `retries`, or the usual one of a route of a VirtualService that has none."""
+    node, keys, read = path[-1][1], keys_of(path[-1][1]), None
+    if plain(str(path[-1][0])) == "retries" and keys & {"attempts", "pertrytimeout", "retryon", "backoff"}:
+        read = functools.partial(_istio, node, path[-2][1]) if "numretries" not in keys else None
+    elif [key for key, _ in path[-3:-1]] == ["spec", "http"] and "route" in keys and part(node, "retries") is None:
+        if text_of(part(path[-4][1], "kind")) == "VirtualService":
+            read = functools.partial(_istio, node.having({}), node)
+    if read:
+        name = next(filter(None, (_name_of(it) for _, it in reversed(path))), "istio")
+        yield Found.at("istio", name, node, read)
+
+
+def _find_temporal(path):
+    node, keys, key = path[-1][1], keys_of(path[-1][1]), plain(str(path[-1][0]))
+    around = path[-2][1] if len(path) > 1 else Node({}, 1)
+    if keys & ACTIVITY:
+        policy = part(node, "retrypolicy", "retry", "retryoptions") or node.having({})
+        yield Found.at("temporal", label(path, "temporal"), policy, functools.partial(_temporal, policy, node))
+    elif not keys_of(around) & ACTIVITY and "minimuminterval" not in keys and (
+            keys & TEMPORAL or (keys, key) == ({"initialinterval"}, "retrypolicy")):
+        yield Found.at("temporal", label(path, "temporal"), node, functools.partial(_temporal, node, around))
+
+
+def _find_kubernetes(path, document):
+    """The probes of a container and the retries of a Job, if the API is one of Kubernetes, or none is said."""
+    node, group = path[-1][1], document and document[0]
+    if group is None or group in WORKLOADS and any(plain(str(key)) in CONTAINERS for key, _ in path):
         for word in PROBES:
             if (probe := part(node, word)) is not None and probe.is_table():
                 name = f"{label(path, 'container')}/{word.removesuffix('probe')}"
                 yield Found.at("kubernetes", name, probe, functools.partial(_probe, probe))
-        if text_of(part(node, "kind")) in ("Job", "CronJob") and part(node, "spec") is not None:
-            yield Found.at("kubernetes", _name_of(node) or "job", node, functools.partial(_job, node))
+    if group in (None, "batch") and text_of(part(node, "kind")) in ("Job", "CronJob") and part(node, "spec"):
+        yield Found.at("kubernetes", _name_of(node) or "job", node, functools.partial(_job, node))
 
 
 def _name_of(node):
@@ -135,10 +193,11 @@ def _grpc(policy, entry, config):
 
 
 def _envoy_name(path):
-    """The name of a policy: that of its route, its cluster, its match or its virtual host."""
+    """The name of a policy: that of its route, its cluster, its match, its virtual host or its document."""
     for _, node in reversed(path):
         match = part(node, "match")
-        names = [part(node, "name"), match and part(part(node, "route"), "cluster"), part(match, "prefix", "path")]
+        names = [part(node, "name"), match and part(part(node, "route"), "cluster"), part(match, "prefix", "path"),
+                 part(part(node, "metadata"), "name")]
         if found := next(filter(text_of, names), None):
             return found.data
     return "envoy"
@@ -156,7 +215,7 @@ def _envoy_others(path):
     that has no other policy."""
     node, others = path[-1][1], ("timeout", "idletimeout", "hedgepolicy", "maxstreamduration")
     found = {name: value_of(it) for name, it in node.data.items() if plain(name) in others[1:]}
-    for it in tables(part(node, "routes") or Node({}, 1), path):
+    for it, _ in tables(part(node, "routes") or Node({}, 1), path):
         if it != path and part(it[-1][1], "retrypolicy") is None and it[-1][0] == "route":
             found |= {f"{_envoy_name(it)}: {name}": value_of(value) for name, value in it[-1][1].data.items()
                       if plain(name) in others}
@@ -176,7 +235,8 @@ def _envoy_errors(words, codes):
     return listed_codes(found), {ERRORS: left_out or "none is named"} if left_out or not words else {}
 
 
-def _envoy(policy, path):
+def _envoy(policy, path, limit):
+    """The Policy of a retry_policy. `limit` is that of the call if the route has none, in milliseconds."""
     fields = Fields(policy)
     usual = Node({"base_interval": Node(f"{default('envoy', 'base_interval')}ms", 1)}, 1)
     back_off = Fields(fields.take("retrybackoff") or usual)
@@ -195,7 +255,7 @@ def _envoy(policy, path):
                 **limited.left_out("rate_limited_retry_back_off."), **_envoy_others(path), **errors}
     count = default("envoy", "num_retries") if retries is None else whole(retries)
     # That of all attempts together; 0 is none.
-    deadline = Fields(path[-1][1]).get(duration, "timeout", default=Fraction(default("envoy", "timeout")))
+    deadline = Fields(path[-1][1]).get(duration, "timeout", default=Fraction(limit))
     return made(envoy_waits(base, most), count, left_out, FULL, timeout=timeout, deadline=deadline, asked=asked, on=on)
 
 

@@ -12,7 +12,7 @@ from typing import NamedTuple
 
 from zsched_tools import command
 from zsched_tools.command import Unread
-from zsched_tools.policy import libraries, limits, reading, services
+from zsched_tools.policy import libraries, limits, profiles, reading, services
 from zsched_tools.words import shown
 
 # The keys of which each policy in a config has one, as `reading.plain` has them; and a filter of Spring's gateway.
@@ -20,7 +20,8 @@ _NAMES = {"methodconfig", "retrypolicy", "retries", "resilience4j", "maxretryatt
           "retrymode", "awsretrymode", "awsmaxattempts", "errorequals", *services.PROBES, *services.ACTIVITY,
           *services.TEMPORAL, *libraries.COUNT, *libraries.FACTOR, *libraries.MOST}
 _KEY = re.compile(rf"(?<![a-z0-9])(?:{'|'.join(sorted(_NAMES))})[\"'\]]*+(?:\[[0-9]++\])?(?:\s*+[:=.]|[ \t])")
-_JOB = re.compile(r"(?<![a-z0-9])kind[\"']?\s*+[:=]\s*+[\"']?(?:cron)?job\b")
+_KINDS = ("job", "virtualservice")
+_KIND = re.compile(r"(?<![a-z0-9])kind[\"']?\s*+[:=]\s*+[\"']?(?:(?:cron)?job|virtualservice)\b")
 _FILTERS = re.compile(r"(?<![a-z0-9])(?:default)?filters\b"), re.compile(r"(?<![a-z0-9])retry\b")
 # How a source shows that it uses a library: words of which it has one, and a pattern.
 _PYTHON = ("tenacity", "backoff", "botocore", "aiobotocore", "celery", "urllib3", "requests")
@@ -91,8 +92,9 @@ def has_mark(path, text):
         words, form = _SOURCES[kind]
         return any(it in text for it in words) and form.search(_JOINED.sub(" ", text)) is not None
     text = _plain(text)
-    return any(it in text for it in _NAMES) and _KEY.search(text) is not None or "job" in text and (
-        _JOB.search(text) is not None) or "filters" in text and all(form.search(text) for form in _FILTERS)
+    return profiles.is_of_profile(path) or any(it in text for it in _NAMES) and _KEY.search(text) is not None or (
+        any(it in text for it in _KINDS) and _KIND.search(text) is not None) or (
+        "filters" in text and all(form.search(text) for form in _FILTERS))
 
 
 def mention(path, text):
