@@ -231,8 +231,10 @@ def test_urllib3_waits_as_long_as_a_service_asks_and_retries_what_its_list_names
     policy = configs.policy_of_file(str(tmp_path / "app.py"), None)
     real = retry.Retry(4, status_forcelist={500, 429})
     ours, theirs = ([it for it in range(1, 600) if retries(it)] for retries in (
-        policy.retries, lambda status: real.is_retry("GET", status)))
-    assert ours == theirs == [429, 500]
+        policy.retries, lambda status: real.is_retry("GET", status, has_retry_after=True)))
+    assert ours == theirs == [413, 429, 500, 503]
+    only = [it for it in ours if not real.is_retry("GET", it)]
+    assert policy.left_out == {"which errors": {"only with Retry-After": list(map(str, only))}} and only == [413, 503]
     assert policy.retries(0) and not real.is_retry("POST", 500)
 
 

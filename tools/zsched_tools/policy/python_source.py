@@ -3,7 +3,8 @@ urllib3's Retry.
 
 tests/test_draws.py compares their waits with those of Debian's packages: tenacity 8.2, backoff 2.2, botocore 1.29, and
 urllib3 1.26, whose first retry is at once, and the n-th after factor * 2^(n-1) s, at most 120 s. It retries what has no
-response and the statuses of its list; with a Retry-After of any length, that is the wait.
+response and the statuses of its list; with a Retry-After of any length, that is the wait, and 413, 429 and 503 are
+retried, too.
 tenacity: wait_exponential waits multiplier * exp_base^(n-1) s, at least min, at most max; a cap comes after the draw,
 and min is no least draw. backoff: expo waits factor * base^(n-1) s, at most max_value, before the draw; fibo 1, 1, 2,
 3, 5 .. s. Both count the first attempt in stop_after_attempt and max_tries, and their limits of time from its begin
@@ -368,14 +369,19 @@ def _urllib3(source, node):
     codes, asks = given.pop("status_forcelist", None), given.pop("respect_retry_after_header", None)
     kinds = ("connect", "read", "redirect", "status", "other", "allowed_methods", "method_whitelist")
     errors = {name: source.whole(given.pop(name)) for name in kinds if name in given}
+    on = source.codes(codes) if getattr(codes, "value", codes) is not None else []
+    is_asked = getattr(asks, "value", True)
+    # It retries these by a Retry-After alone, whatever its list has.
+    if is_asked and (more := [it for it in ("413", "429", "503") if it not in on]):
+        errors["only with Retry-After"] = more
+        on += more
     left_out = {name: source.whole(it) for name, it in given.items()} | ({ERRORS: errors} if errors else {})
     waits = constant(0)
     if factor and retries not in (0, 1):
         later = exponential(2 * factor, 2, default("urllib3", "DEFAULT_BACKOFF_MAX"))
         text, more = spelled(later, retries and retries - 1)
         waits, left_out = f"(recurs(1) andThenEither {text})", left_out | more
-    return made(waits, retries, left_out, asked=LAST_MOMENT if getattr(asks, "value", True) else None,
-                on=listed_codes(["0", *(source.codes(codes) if getattr(codes, "value", codes) is not None else [])]))
+    return made(waits, retries, left_out, asked=LAST_MOMENT if is_asked else None, on=listed_codes(["0", *on]))
 
 
 def _backoff(source, node):
