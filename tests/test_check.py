@@ -177,7 +177,12 @@ CHANGES = {
         ("unreadable", "shop/testdata/broken.yaml:2:1", None, "not YAML", None)]),
     "a setting isn't applied": (change("jobs/svc16.yml", "backoffLimit: 2", "backoffLimit: 2\n  parallelism: 3"), 1, [
         ("not-applied", "jobs/svc16.yml:1:1", "svc16", "parallel isn't applied: 3", None)]),
-    "settings that add nothing": (lambda top: put(top / "edge/istio.yaml", SIDECAR), 0, []),
+    "settings that add nothing": (both(
+        lambda top: put(top / "edge/istio.yaml", SIDECAR),
+        lambda top: put(top / "aws.ini", "[profile a]\nmax_attempts = 3\n"),
+        change("jobs/svc16.yml", "backoffLimit: 2", "backoffLimit: 2\n  completions: 1")), 0, []),
+    "attempts that the client may have": (lambda top: put(top / "aws.ini", "[profile a]\nretry_mode = legacy\n"), 1, [
+        ("not-applied", "aws.ini:1:1", "a", "DynamoDB isn't applied: its own waits, and ten attempts", None)]),
     "two settings that may add": (lambda top: put(top / "polly.json", POLLY), 1, [
         ("not-applied", "polly.json:1:11", "polly",
          "DelayGenerator isn't applied: slower; hedging isn't applied: {Delay: 1}; no limit holds over that", None)]),

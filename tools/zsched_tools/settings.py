@@ -29,7 +29,7 @@ EARLIER = {ERRORS, "budget", "stop_after_delay", "max_time", "jitter", "Heartbea
     "resultPredicate retryOnResultPredicate retriable_headers retriable_request_headers retriableHeaders "
     "retriableRequestHeaders methods maxRequestMessageBytes maxResponseMessageBytes waitForReady idle_timeout "
     "idleTimeout max_stream_duration maxStreamDuration heartbeatTimeout HeartbeatSecondsPath TimeoutSecondsPath "
-    "CircuitBreaker circuitBreaker Timeout enabled retry_mode".split())
+    "CircuitBreaker circuitBreaker Timeout enabled retry_mode".split()) | {"waits of DynamoDB"}
 # Where an attempt goes.
 WHERE = set("retry_host_predicate retryHostPredicate host_selection_retry_max_attempts hostSelectionRetryMaxAttempts "
             "retry_priority retryPriority retryRemoteLocalities retryIgnorePreviousHosts".split())

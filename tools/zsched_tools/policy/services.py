@@ -300,8 +300,8 @@ def _job(node):
     deadline = 1000 * fields.get(whole, "activedeadlineseconds", default=0)
     pod = part(part(fields.take("template"), "spec"), "restartpolicy")
     parallel = fields.get(whole, "parallelism", default=1)
-    left_out = {name: it for name, it in fields.left_out().items() if plain(name) not in (
-        "selector", "manualselector", "ttlsecondsafterfinished", "managedby")}
+    left_out = {name: it for name, it in fields.left_out().items() if (plain(name), it) != ("completions", "1") and (
+        plain(name) not in ("selector", "manualselector", "ttlsecondsafterfinished", "managedby"))}
     left_out |= {"restartPolicy": "OnFailure"} if text_of(pod) == "OnFailure" else {}
     return made(exponential(first, 2, most), retries, left_out, deadline=Fraction(deadline),
                 parallel=parallel if parallel != 1 else None)
@@ -365,7 +365,9 @@ def aws(node):
     mode = "legacy" if asked is None else asked.data.lower()
     if mode not in ("legacy", "standard", "adaptive"):
         raise asked.wrong(f"{named(asked)} is not legacy, standard or adaptive")
-    left_out = {"legacy": {"DynamoDB": "its own waits"}, "adaptive": {"rate": "that of a client"}}.get(mode, {})
+    dynamo = {"waits of DynamoDB": "shorter ones"} if fields.found.keys() & {"maxattempts", "awsmaxattempts"} else {
+        "DynamoDB": "its own waits, and ten attempts"}
+    left_out = {"legacy": dynamo, "adaptive": {"rate": "that of a client"}}.get(mode, {})
     budget = None if mode == "legacy" else {"like": "aws", "tokens": 500, "retry": 5, "ok": 1}
     usual, most = (default("aws-standard", it) for it in ["DEFAULT_MAX_ATTEMPTS", "max_backoff"])
     attempts = fields.get(whole, "maxattempts", "awsmaxattempts", default=5 if mode == "legacy" else usual, least=1)
