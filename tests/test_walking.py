@@ -120,6 +120,15 @@ def test_a_file_that_mentions_retries_is_counted_and_named(name, text, line, wor
     assert status == 1 and errors.startswith(f"zsched-policy: {name}:{line}: {word} is a word of retries, and no ")
 
 
+@pytest.mark.parametrize("text, line", [
+    (f"{GOOD}---\nkind: Middleware\nspec:\n  retry: {{attempts: 40}}\n", 12),
+    (f"spec: {{retry: {{attempts: 40}}}}\n--- # b\n{GOOD}", 1), (f"{GOOD}---\n{GOOD}---\na: 1\n", None)])
+def test_a_document_without_a_policy_is_counted_beside_one_that_has_it(text, line, room):
+    put(room / "good.yaml", text)
+    found = json.loads(checked("--json")[1])["files"]["not_understood"]
+    assert found == ([{"path": "good.yaml", "line": line, "word": "retry"}] if line else [])
+
+
 @pytest.mark.parametrize("name, text", NONE)
 def test_a_file_without_a_value_for_such_a_word_is_not_counted(name, text, room):
     put(room / name, text)

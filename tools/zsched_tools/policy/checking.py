@@ -22,7 +22,7 @@ RULES = {"unreadable": "A file or a folder that can't be read, or what looks lik
          "not-applied": "A limit of a policy of which not each setting is applied.",
          "fits-nothing": "A part of .zsched.toml that fits no file, no policy, or no finding.",
          "nothing": "No policy was found, or no policy has a limit.",
-         "not-understood": "A file that mentions retries, and in which no policy is known. Only --strict asks for it."}
+         "not-understood": "A file that mentions retries where no policy is known. Only --strict asks for it."}
 
 
 @dataclass
@@ -147,17 +147,17 @@ class Check:
             self._add(Finding("unreadable", path, 1, _fault(fault)))
             return
         self.with_policies += bool(policies)
-        if not policies and (found := walking.mention(path, text)):
+        if found := walking.mention(path, text, [it.line for it in policies]):
             self._mention(path, found)
         if is_named and not policies:
             self._add(Finding("nothing", path, 1, f"no policy; {configs.names_of([])}"))
 
     def _mention(self, path, found):
-        """Adds a file that mentions retries and has no policy that is known."""
+        """Adds a file that mentions retries where no policy is known."""
         self.mentions[path] = found
         if self.given.strict:
             self._add(Finding("not-understood", path, found.line, f"{found.word} is a word of retries, and no policy "
-                              "of this file is known; leave_out or ignore says that it has none"))
+                              "is known there; leave_out or ignore says that there is none"))
 
     def _policy(self, path, found):
         """Adds a policy of a file, or why it can't be read."""

@@ -1,5 +1,6 @@
 """The files of folders in which policies may be: those of git, where there is a checkout. Each is searched for a key, a
 call or an import that a reader of policies knows, and for the words of retries in other languages."""
+import bisect
 import functools
 import os
 import pathlib
@@ -36,6 +37,7 @@ _SOURCES = {"python": ((*_PYTHON, "autoretry_for"), re.compile(
 ENDING, NO_FILE = "another type of file", "a link or no file"
 # Files of this name have no ending, and the SDKs of AWS read them in this folder.
 _AWS = ".aws", ("config", "credentials")
+_YAML = ("yaml", "yml")
 # What git says of a folder that it can't list.
 _UNLISTED = re.compile(r"warning: could not open directory '(.*)': (.*)")
 # A file is searched up to this size.
@@ -97,16 +99,22 @@ def has_mark(path, text):
         "filters" in text and all(form.search(text) for form in _FILTERS))
 
 
-def mention(path, text):
-    """The first place at which a file mentions retries, or None."""
+def mention(path, text, lines=()):
+    """The first place at which a file mentions retries, or None. The file has policies at these lines, and then only a
+    document of YAML counts that has none of them."""
     words, form = _words().get(ending_of(path), ((), None))
     plain = _plain(text)
-    if not any(it in plain for it in words) or not (found := form.search(plain)):
+    if not any(it in plain for it in words):
         return None
-    line = plain.count("\n", 0, found.start())
-    name = found[1]
-    spelled = re.search("[-_]*".join(map(re.escape, name)), text.split("\n")[line], re.I)
-    return Mention(line + 1, spelled[0] if spelled else name)
+    rows, at, line = text.split("\n"), 0, 0
+    begins = [number for number, row in enumerate(rows, 1) if row.startswith("---")] if ending_of(path) in _YAML else []
+    known = {bisect.bisect(begins, it) for it in lines}
+    for found in form.finditer(plain):
+        line, at, name = line + plain.count("\n", at, found.start()), found.start(), found[1]
+        if bisect.bisect(begins, line + 1) not in known:
+            spelled = re.search("[-_]*".join(map(re.escape, name)), rows[line], re.I)
+            return Mention(line + 1, spelled[0] if spelled else name)
+    return None
 
 
 def text_of(path):
