@@ -137,6 +137,7 @@ SAMPLES = {
     "max_time": [BACKOFF.format("jitter=None, max_tries=4"), BACKOFF.format("jitter=None, max_tries=4, max_time=100")],
     "reraise": [TENACITY.format(f"stop=stop_after_attempt(4){more}") for more in ("", ", reraise=x")],
     "waitForReady": [STEADY.format(""), STEADY.format(", waitForReady: true")],
+    "resultPredicate": [STEADY.format(""), STEADY.format(", resultPredicate: isEmpty")],
     "retry_priority": [STEADY.format(""), STEADY.format(", retry_priority: {name: x}")],
     "delayed": [ZIO.format(""), ZIO.format(".delayed(slower)")],
     "any other": [TENACITY.format(f"stop=stop_after_attempt(4){more}") for more in ("", ", sleep=x")]}

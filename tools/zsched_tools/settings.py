@@ -24,12 +24,15 @@ _TYPED = re.compile(rf"(?<=[\s)])({'|'.join(WORDS)})(?![A-Za-z(]) *"
                     r"(\{[^{}]*\}|[^\s,{}]+(?: *, *[^\s,{}]+)*|)")
 ERRORS = "which errors"
 # What restricts: it can only mean fewer attempts, shorter ones or shorter waits, for example by a condition of a retry.
-# `retry_mode` is that of an AWS config that doesn't say it, of which the greatest one is taken.
+# `retry_mode` is that of an AWS config that doesn't say it, of which the greatest one is taken; waitForReady lets an
+# attempt wait for its connection, within the attempt's own limit, where it would fail.
 EARLIER = {ERRORS, "budget", "stop_after_delay", "max_time", "jitter", "HeartbeatSeconds", "soft_time_limit"} | set(
-    "resultPredicate retryOnResultPredicate retriable_headers retriable_request_headers retriableHeaders "
-    "retriableRequestHeaders methods maxRequestMessageBytes maxResponseMessageBytes waitForReady idle_timeout "
-    "idleTimeout max_stream_duration maxStreamDuration heartbeatTimeout HeartbeatSecondsPath TimeoutSecondsPath "
-    "CircuitBreaker circuitBreaker Timeout enabled retry_mode".split()) | {"waits of DynamoDB"}
+    "retriable_request_headers retriableRequestHeaders methods maxRequestMessageBytes maxResponseMessageBytes "
+    "waitForReady idle_timeout idleTimeout max_stream_duration maxStreamDuration heartbeatTimeout HeartbeatSecondsPath "
+    "TimeoutSecondsPath CircuitBreaker circuitBreaker Timeout enabled retry_mode".split()) | {"waits of DynamoDB"}
+# What adds answers that are retried, or says by which rule a late `fixed` goes on. Bounds hold for every answer and by
+# either rule, but a run has its own answers.
+OF_RUNS = {"resultPredicate", "retryOnResultPredicate", "retriable_headers", "retriableHeaders", "fixed"}
 # Where an attempt goes.
 WHERE = set("retry_host_predicate retryHostPredicate host_selection_retry_max_attempts hostSelectionRetryMaxAttempts "
             "retry_priority retryPriority retryRemoteLocalities retryIgnorePreviousHosts".split())
@@ -51,9 +54,8 @@ APPLIED = {"layers": {"call", "attempt", "on"},
            **dict.fromkeys(["run", "follows"], {"call", "attempt", "on", "mode"}),
            **dict.fromkeys(["bound", "outage"], {"call", "attempt", "on", "asked", "mode"}),
            "plan": {"on", "mode"}, "export": {"on"}}
-# No bound reads by which rule a late `fixed` goes on.
-HARMLESS = {tool: IDLE | {"run": EARLIER, "layers": EARLIER, "bound": EARLIER | {"mode", "fixed"}}.get(tool, set())
-            for tool in APPLIED}
+HARMLESS = {tool: IDLE | more for tool, more in {
+    **dict.fromkeys(APPLIED, set()), "run": EARLIER, "layers": EARLIER, "bound": EARLIER | OF_RUNS | {"mode"}}.items()}
 
 
 @dataclass

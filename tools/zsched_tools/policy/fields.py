@@ -5,7 +5,7 @@ from typing import Callable, NamedTuple
 
 from zsched_tools.durations import UNITS, exact_milliseconds
 from zsched_tools.hints import TABLE
-from zsched_tools.policy.reading import Node, Table, plain
+from zsched_tools.policy.reading import Table, plain
 from zsched_tools.policy.spelling import drawn, spelled
 from zsched_tools.settings import ERRORS, Policy
 from zsched_tools.words import shown

@@ -39,7 +39,9 @@ TEMPORAL = {"backoffcoefficient", "maximumattempts", "maximuminterval", "nonretr
 ACTIVITY = {"starttoclosetimeout", "scheduletoclosetimeout"}
 PROBES = ["livenessprobe", "readinessprobe", "startupprobe"]
 FULL = {"kind": "full"}
-# The keys around a retry_policy of Envoy, and around a container; groups of APIs of Kubernetes that have containers.
+# The keys around a retry_policy of Envoy, ROUTES those of a route, and around a container; groups of APIs of Kubernetes
+# that have containers.
+OF_ENVOY = {"staticresources", "typedconfig"}
 ROUTES = {"route", "routes", "routeconfig", "typedperfilterconfig", "virtualhosts"}
 BARE = {"retrypolicy", "name", "match", "domains", "cluster", "timeout", "idletimeout", "hedgepolicy"}
 CONTAINERS = {"containers", "initcontainers", "ephemeralcontainers"}
@@ -72,7 +74,8 @@ def find(root):
         if document is None:
             yield from _find_grpc(path[-1][1])
         if _is_envoy(path, document):
-            policy, limit = part(path[-1][1], "retrypolicy"), default("envoy", "timeout") if document is None else 0
+            policy, is_route = part(path[-1][1], "retrypolicy"), len(path) == 1 or _is_below(path, ROUTES)
+            limit = default("envoy", "timeout") if document is None and is_route else 0
             read = functools.partial(_envoy, policy, path, limit)
             yield Found.at("envoy", _envoy_name(path), policy, read)
         if document in (None, ISTIO):
@@ -92,13 +95,17 @@ def _find_grpc(node):
 
 
 def _is_envoy(path, document):
-    """Whether a table has a retry_policy of Envoy: a route, a virtual host, or a part of an EnvoyFilter. A file may be
-    such a table, if it has no key that isn't Envoy's."""
+    """Whether a table has a retry_policy of Envoy: a route, a virtual host, or another part of Envoy's config or of an
+    EnvoyFilter. A file may be such a table, if it has no key that isn't Envoy's."""
     node = path[-1][1]
     if document not in (None, FILTER) or not keys_of(part(node, "retrypolicy")) & ENVOY:
         return False
-    places = ROUTES if document is None else ROUTES | {"value"}
-    return any(plain(str(key)) in places for key, _ in path) or len(path) == 1 and keys_of(node) <= BARE
+    places = ROUTES | (OF_ENVOY if document is None else {"value"})
+    return _is_below(path, places) or len(path) == 1 and keys_of(node) <= BARE
+
+
+def _is_below(path, keys):
+    return any(plain(str(key)) in keys for key, _ in path)
 
 
 def _find_istio(path):
@@ -128,7 +135,7 @@ def _find_temporal(path):
 def _find_kubernetes(path, document):
     """The probes of a container and the retries of a Job, if the API is one of Kubernetes, or none is said."""
     node, group = path[-1][1], document and document[0]
-    if group is None or group in WORKLOADS and any(plain(str(key)) in CONTAINERS for key, _ in path):
+    if group is None or group in WORKLOADS and _is_below(path, CONTAINERS):
         for word in PROBES:
             if (probe := part(node, word)) is not None and probe.is_table():
                 name = f"{label(path, 'container')}/{word.removesuffix('probe')}"
